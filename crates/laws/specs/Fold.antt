@@ -1,0 +1,41 @@
+-- Folds over the indices 0 .. n - 1: `upTo f a n` is f (n - 1) (.. (f 1 (f 0 a))), what a loop over 0..n holds after its turns.
+use Prim.Native.Nat.{ℕ, zero, suc, _+_}
+use mathlib.Core.Path.{_≡_, refl, ap}
+use mathlib.Core.Bool.{Bool, true, false}
+use native.Mathlib.Numerals.{add-one}
+use Rattle.laws.specs.Choice.{_and_, _or_}
+
+module _ {A : Type 0} where
+  unfoldable pub upTo : (ℕ → A → A) → A → ℕ → A
+  upTo f a zero = a
+  upTo f a (suc n) = f n (upTo f a n)
+
+abbrev pub bit : Bool → ℕ
+bit true = 1
+bit false = 0
+
+-- how many places below n pass the test; whether one does; whether all do
+abbrev pub countTo : (ℕ → Bool) → ℕ → ℕ
+countTo p n = upTo (λ k a. a + bit (p k)) 0 n
+
+abbrev pub anyTo : (ℕ → Bool) → ℕ → Bool
+anyTo p n = upTo (λ k a. a or p k) false n
+
+abbrev pub allTo : (ℕ → Bool) → ℕ → Bool
+allTo p n = upTo (λ k a. a and p k) true n
+
+module _ {A : Type 0} (f : ℕ → A → A) (a : A) where
+  pub upTo-none : a ≡ upTo f a 0
+  unfolding upTo
+  upTo-none = refl
+
+  -- a loop's turn, with the code's n + 1
+  pub upTo-step : (n : ℕ) {b : A} → b ≡ upTo f a n → f n b ≡ upTo f a (n + 1)
+  unfolding upTo
+  upTo-step n p = rw (p, add-one n)
+
+  -- what the start has and each turn keeps
+  pub upTo-keeps : (P : A → Type 0) → P a → ((k : ℕ) (b : A) → P b → P (f k b)) → (n : ℕ) → P (upTo f a n)
+  unfolding upTo
+  upTo-keeps P start turn zero = start
+  upTo-keeps P start turn (suc n) = turn n (upTo f a n) (upTo-keeps P start turn n)

@@ -1,0 +1,5 @@
+pub mod Choice
+pub mod Table
+pub mod Fold
+pub mod First
+pub mod Mask

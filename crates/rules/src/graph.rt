@@ -1,0 +1,25 @@
+// The graph that an image describes, with its flags applied. An entry is one number (specs/Graph.antt says what it holds).
+use crate::refusal::Refusal;
+
+// The first nv, ne and nu entries are in use.
+pub struct Graph {
+    pub nv: usize,
+    pub ne: usize,
+    pub nu: usize,
+    pub vertices: [u32; 256],
+    pub edges: [u32; 1024],
+    pub weights: [u32; 1024],
+    pub units: [u32; 2048],
+}
+
+// The image's own number of units, and where the session records start.
+pub enum Opening {
+    Accepted { units: usize, start: usize },
+    Refused(Refusal),
+}
+
+// A refused image comes with a blank graph.
+pub struct Opened {
+    pub graph: Graph,
+    pub opening: Opening,
+}

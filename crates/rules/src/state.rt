@@ -1,0 +1,21 @@
+// A decoder's state over a graph.
+use crate::finding::Answer;
+use crate::finding::Sought;
+
+// Registers of the vertices, weight registers of the edges, the pair list as a flag for each edge, and the maximum.
+pub struct State {
+    pub registers: [u64; 256],
+    pub weights: [u32; 1024],
+    pub stalled: [bool; 1024],
+    pub maximum: u32,
+}
+
+pub struct Cycle {
+    pub state: State,
+    pub answer: Answer,
+}
+
+pub struct Searched {
+    pub state: State,
+    pub answer: Sought,
+}
