@@ -3,3 +3,4 @@ pub mod Table
 pub mod Fold
 pub mod First
 pub mod Mask
+pub mod Listed

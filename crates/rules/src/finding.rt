@@ -33,8 +33,14 @@ pub enum Response {
     OddRemaining,
 }
 
-// What an instruction or a word is answered.
+// What an instruction is answered.
 pub enum Answer {
+    Found(Finding),
+    Refused(Refusal),
+}
+
+// What a word is answered: it may carry a reset.
+pub enum WordAnswer {
     Found(Finding),
     Reset,
     Refused(Refusal),

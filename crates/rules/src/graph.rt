@@ -1,5 +1,21 @@
 // The graph that an image describes, with its flags applied. An entry is one number (specs/Graph.antt says what it holds).
+use crate::index::EdgeIndex;
+use crate::index::VertexIndex;
 use crate::refusal::Refusal;
+
+pub enum OffloadingType {
+    DefectMatch {
+        edge: EdgeIndex,
+    },
+    VirtualMatch {
+        edge: EdgeIndex,
+        vertex: VertexIndex,
+    },
+    FusionMatch {
+        edge: EdgeIndex,
+        vertex: VertexIndex,
+    },
+}
 
 // The first nv, ne and nu entries are in use.
 pub struct Graph {

@@ -1,6 +1,7 @@
 // A decoder's state over a graph.
 use crate::finding::Answer;
 use crate::finding::Sought;
+use crate::finding::WordAnswer;
 
 // Registers of the vertices, weight registers of the edges, the pair list as a flag for each edge, and the maximum.
 pub struct State {
@@ -13,6 +14,11 @@ pub struct State {
 pub struct Cycle {
     pub state: State,
     pub answer: Answer,
+}
+
+pub struct WordCycle {
+    pub state: State,
+    pub answer: WordAnswer,
 }
 
 pub struct Searched {
