@@ -1,7 +1,9 @@
 -- Folds over the indices 0 .. n - 1: `upTo f a n` is f (n - 1) (.. (f 1 (f 0 a))), what a loop over 0..n holds after its turns.
-use Prim.Native.Nat.{ℕ, zero, suc, _+_}
-use mathlib.Core.Path.{_≡_, refl, ap}
+use Prim.Native.Nat.{ℕ, zero, suc, _+_, _<_}
+use mathlib.Core.Path.{_≡_, refl, sym, ap, subst}
+use mathlib.Core.Logic.{⊎-elim}
 use mathlib.Core.Bool.{Bool, true, false}
+use native.Mathlib.Nat.{eq-or-lt-of-le, le-of-suc-le-suc, not-suc-le-zero}
 use native.Mathlib.Numerals.{add-one}
 use Rattle.laws.specs.Choice.{_and_, _or_}
 
@@ -39,3 +41,17 @@ module _ {A : Type 0} (f : ℕ → A → A) (a : A) where
   unfolding upTo
   upTo-keeps P start turn zero = start
   upTo-keeps P start turn (suc n) = turn n (upTo f a n) (upTo-keeps P start turn n)
+
+-- where each turn splits what holds after it into what held before and the turn's own part
+module _ {A : Type 0} (P : A → Type 0) (R : ℕ → Type 0) (f : ℕ → A → A) (split : (k : ℕ) (a : A) → P (f k a) → P a × R k) where
+  pub upTo-first : (a : A) (n : ℕ) → P (upTo f a n) → P a
+  unfolding upTo
+  upTo-first a zero h = h
+  upTo-first a (suc n) h = upTo-first a n (split n (upTo f a n) h .0)
+
+  pub upTo-each : (a : A) (n : ℕ) → P (upTo f a n) → (k : ℕ) → k < n → R k
+  unfolding upTo
+  upTo-each a zero h k l = absurd (not-suc-le-zero l)
+  upTo-each a (suc n) h k l =
+      ⊎-elim (λ (q : k ≡ n). subst R (sym q) (split n (upTo f a n) h .1)) (λ q. upTo-each a n (split n (upTo f a n) h .0) k q)
+      (eq-or-lt-of-le (le-of-suc-le-suc l))

@@ -3,7 +3,7 @@
 --     paint n f xs     xs with its entries 0 .. n - 1 replaced by f 0, f 1, ..; what lies beyond n stays
 -- Each reads by its own index, so that a table of n entries is computed in n steps.
 use Prim.Native.Nat.{ℕ, zero, suc, pred, _+_, _≤_, _<_}
-use mathlib.Core.Path.{_≡_, refl, sym, ap, _∙_}
+use mathlib.Core.Path.{_≡_, refl, sym, ap, _∙_, subst}
 use mathlib.Core.List.{List, [], _∷_}
 use native.Mathlib.Nat.{add-zero, zero-add, add-suc, suc-add, le-of-suc-le-suc, not-suc-le-zero}
 use native.Mathlib.Numerals.{add-one}
@@ -89,28 +89,19 @@ module _ {A : Type 0} (f : ℕ → A) where
   unfolding paint
   getD-unpainted n xs k d h = unpainted-at 0 n xs k d h
 
-  -- what holds of each new entry and at each old one holds at every index
-  module _ (P : A → Type 0) (d : A) (each : (k : ℕ) → P (f k)) where
-    all-paintFrom : (i n : ℕ) (xs : List A) → ((k : ℕ) → P (getD xs k d)) → (k : ℕ) → P (getD (paintFrom i n f xs) k d)
+  -- an entry at any index: a new one, or what stood there
+  module _ (P : A → Type 0) (d : A) where
+    paintFrom-at : (i n : ℕ) (xs : List A) (k : ℕ) → (k < n → P (f (i + k))) → P (getD xs k d) → P (getD (paintFrom i n f xs) k d)
     unfolding paintFrom
-    all-paintFrom i zero xs old k = old k
-    all-paintFrom i (suc n) [] old k = old k
-    all-paintFrom i (suc n) (x ∷ xs) old zero = each i
-    all-paintFrom i (suc n) (x ∷ xs) old (suc k) = all-paintFrom (suc i) n xs (λ j. old (suc j)) k
+    paintFrom-at i zero xs k new old = old
+    paintFrom-at i (suc n) [] k new old = old
+    paintFrom-at i (suc n) (x ∷ xs) zero new old = subst P (sym (first-index f i)) (new (omega arith))
+    paintFrom-at i (suc n) (x ∷ xs) (suc k) new old =
+        paintFrom-at (suc i) n xs k (λ l. subst P (sym (next-index f i k)) (new (omega arith))) old
 
-    pub all-paint : (n : ℕ) (xs : List A) → ((k : ℕ) → P (getD xs k d)) → (k : ℕ) → P (getD (paint n f xs) k d)
+    pub paint-at : (n : ℕ) (xs : List A) (k : ℕ) → (k < n → P (f k)) → P (getD xs k d) → P (getD (paint n f xs) k d)
     unfolding paint
-    all-paint n xs old k = all-paintFrom 0 n xs old k
-
-    all-tableFrom : (i n : ℕ) → P d → (k : ℕ) → P (getD (tableFrom i n f) k d)
-    unfolding tableFrom
-    all-tableFrom i zero pd k = pd
-    all-tableFrom i (suc n) pd zero = each i
-    all-tableFrom i (suc n) pd (suc k) = all-tableFrom (suc i) n pd k
-
-    pub all-table : (n : ℕ) → P d → (k : ℕ) → P (getD (table n f) k d)
-    unfolding table
-    all-table n pd k = all-tableFrom 0 n pd k
+    paint-at n xs k new old = paintFrom-at 0 n xs k (λ l. subst P (sym (ap f (zero-add k))) (new l)) old
 
   -- ---- what a loop's turns ask
 

@@ -3,130 +3,223 @@ use Prim.Native.Nat.{ℕ}
 use Prim.Native.String.{String}
 use mathlib.Core.Path.{_≡_, refl}
 use mathlib.Core.List.{List, [], _∷_, map}
-use mathlib.Core.Bool.{Bool, true, false}
-use Rattle.laws.specs.Choice.{_and_, _or_, pick}
-use Rattle.laws.specs.Fold.{upTo}
+use Rattle.laws.specs.Choice.{_and_, pick}
 use Rattle.laws.specs.First.{first}
-use Rattle.laws.specs.Table.{tableFrom, table, paintFrom, paint}
-use Rattle.laws.specs.Listed.{indices, slots}
-use Rattle.rules.specs.Registers
-use Rattle.rules.specs.Graph
-use Rattle.rules.specs.Fetch
-use Rattle.rules.specs.Units
-use Rattle.rules.specs.Execute
-use Rattle.rules.specs.Peer
-use Rattle.rules.specs.Update
-use Rattle.rules.specs.Shadow
-use Rattle.rules.specs.Respond
-use Rattle.rules.specs.Reduce
-use Rattle.rules.specs.Words
-use Rattle.rules.specs.State
-use Rattle.rules.specs.Instruct
-use Rattle.rules.specs.Pairs
-use Rattle.rules.specs.Search
-use Rattle.rules.specs.Image
-use Rattle.rules.specs.Run
-use Rattle.rules.specs.Listing
-use Rattle.rules.proofs.Text.{text, hex}
-
--- the whole listing of an image and its session
-unfoldable pub shown : String → List ℕ
-unfolding _and_ _or_ pick upTo first tableFrom table paintFrom paint indices slots
-    Registers.speedOf Registers.view Registers.keep Registers.at Registers.fresh
-    Graph.layerOf Graph.hasLayer Graph.defaultVirtual Graph.leftOf Graph.rightOf Graph.conditionOf Graph.touches Graph.farEnd Graph.unitOf
-    Graph.degree Graph.fits Graph.edgesInUse Graph.inUse
-    Fetch.reduced Fetch.fetchWeight Fetch.fetched Fetch.tight Fetch.countedTight Fetch.tightCount
-    Units.eager Units.defectMatch Units.isOther Units.permits Units.virtualMatch Units.fusionMatch Units.holds Units.stallsAround Units.stalls
-    Units.stalledVertices Units.stalledEdges
-    Execute.moved Execute.execute Execute.waits Execute.still Execute.executeAt Execute.executeRefusal Execute.executed
-    Peer.isPropagating Peer.serves Peer.servedBy Peer.peer
-    Update.isLoose Update.update Update.updated
-    Shadow.yielded Shadow.shadow Shadow.shadows
-    Respond.vertexReport Respond.less Respond.available Respond.shown Respond.limit Respond.meeting Respond.respond Respond.remaining Respond.edgeResponse
-    Reduce.someOdd Reduce.vertexFinding Reduce.finding
-    Words.fieldOf Words.isKind Words.kindIn Words.kindOfWord Words.speedAsked Words.asks Words.unpacked Words.inBounds
-    State.freshRegisters State.freshState State.reset State.firstState
-    Instruct.concluded Instruct.settled Instruct.step Instruct.instruct Instruct.wordRun
-    Pairs.pairs Pairs.listed
-    Search.growBy Search.afterFinding Search.turn Search.walked Search.search Search.searchOn Search.searchTo
-    Image.byteAt Image.u16At Image.u32At Image.isImage Image.fusion Image.offloading Image.headRefusal Image.vertexRefusal Image.isEnd Image.edgesAt
-    Image.edgeRefusal Image.unitRefusal Image.imageRefusal Image.vertexWord Image.condition Image.edgeWord Image.unitWord Image.fusionWord
-    Image.isConditioned Image.unitWords Image.graphOf Image.opened
-    Run.call
-    Listing.digits Listing.decimal Listing.recordCall Listing.session Listing.listing hex
-shown input = Listing.listing (hex input)
+use Rattle.rules.specs.Words.{fieldOf, isKind, kindIn, kindOfWord, speedAsked, asks, unpacked, inBounds, wordOf, wordFor, packed, packedReset}
+use Rattle.rules.specs.declared.instruction.CompactGrowState.the-variants.{Grow}
+use Rattle.rules.specs.declared.instruction.Instruction.{Instruction}
+use Rattle.rules.specs.declared.instruction.Instruction.the-variants.{SetSpeed, SetBlossom, AddDefectVertex, Grow as GrowBy, LoadDefectsExternal}
+use Rattle.rules.specs.declared.instruction.Unpacked.{Unpacked}
+use Rattle.rules.specs.declared.instruction.Unpacked.the-variants.{Says, Reset, Refused}
+use Rattle.rules.specs.declared.instruction.Packed.{Packed}
+use Rattle.rules.specs.declared.instruction.Packed.the-variants as P
+use Rattle.rules.specs.declared.refusal.Refusal.the-variants.{NotCarried, OutOfBounds}
+use Rattle.rules.proofs.Text.{text}
+use Rattle.rules.proofs.Computed.{Look, listing, registers, weights, computed}
 
 pub data Example : Type 0 where
-  -- an image and its session in hex, and the whole listing
-  replays : String → String → Example
+  -- an image and its session in hex, and what is seen of it
+  replays : Look → String → String → Example
+  fetches : String → List ℕ → Example
+  -- a word, and what it asks; an instruction, and its word; reset's word
+  carries : ℕ → Unpacked → Example
+  packs : Instruction → Packed → Example
+  resets : ℕ → Example
 
-unfoldable pub sees : Example → List ℕ
-unfolding shown
-sees (replays input output) = shown input
+pub data Seen : Type 0 where
+  numbers : List ℕ → Seen
+  asked : Unpacked → Seen
+  word : Packed → Seen
 
-abbrev pub says : Example → List ℕ
-says (replays input output) = text output
+unfoldable pub sees : Example → Seen
+unfolding computed _and_ pick first fieldOf isKind kindIn kindOfWord speedAsked asks unpacked inBounds wordOf wordFor packed packedReset
+sees (replays look input output) = numbers (computed look input)
+sees (fetches input output) = numbers (computed weights input)
+sees (carries w u) = asked (unpacked w)
+sees (packs i w) = word (packed i)
+sees (resets w) = word packedReset
+
+abbrev pub expects : Example → Seen
+expects (replays look input output) = numbers (text output)
+expects (fetches input output) = numbers output
+expects (carries w u) = asked u
+expects (packs i w) = word w
+expects (resets w) = word (P.Word w)
 
 pub examples : List Example
 examples =
     -- the worked example of "Replay listing"
-    replays
+    replays listing
     "444354 0100 00 0200 0100 0000 00FFFF 00FFFF 0000010004000000FFFF 0002000000 0006000200 01FFFFFF7F 0300000000"
     "DCT 1 2 1 0\ni g 4\ni g 2\ns c 0 1 0 1 0 1 2 1 2147483645\np\n"
     -- A: weight 4, maximum 1: length 0, growth 1, left 0
-    ∷ replays
+    ∷ replays listing
     "444354 0100 00 0200 0100 0000 00FFFF 00FFFF 0000010004000000FFFF 0002000000 0006000200 0101000000"
     "DCT 1 2 1 0\ni g 4\ni g 2\ns g 0 1 1 0\n"
     -- B: maximum 0: length 0, growth 0, no steps
-    ∷ replays
+    ∷ replays listing
     "444354 0100 00 0200 0100 0000 00FFFF 00FFFF 0000010004000000FFFF 0002000000 0006000200 0100000000"
     "DCT 1 2 1 0\ni g 4\ni g 2\ns g 0 0 0 0\n"
     -- C: weight 3: the second AddDefectVertex gets 16; vertex 1 is no defect
-    ∷ replays
+    ∷ replays listing
     "444354 0100 00 0200 0100 0000 00FFFF 00FFFF 0000010003000000FFFF 0002000000 0006000200"
     "DCT 1 2 1 0\ni g 3\nr 16\n"
+    ∷ replays registers
+    "444354 0100 00 0200 0100 0000 00FFFF 00FFFF 0000010003000000FFFF 0002000000 0006000200"
+    "v 0 1 0 0 1 0 0\nv 1 0 0 0 0 - -\n"
     -- D: weight 4, Grow 3: length -1; the next search gets 17
-    ∷ replays
+    ∷ replays listing
     "444354 0100 00 0200 0100 0000 00FFFF 00FFFF 0000010004000000FFFF 0002000000 0006000200 00F4000000 0200000000"
     "DCT 1 2 1 0\ni g 4\ni g 2\ni g -1\nr 17 0 0 2147483647\n"
     -- E: one vertex, defect 0, Grow 3, Shrink, search: length 0, growth 3
-    ∷ replays
+    ∷ replays listing
     "444354 0100 00 0100 0000 0000 00FFFF 0002000000 00F4000000 0000000100 0200000000"
     "DCT 1 1 0 0\ni g max\ni g max\ni g 3\ns g 0 3 1 2147483644\n"
     -- F: same vertex, fresh defect, Grow 67,108,863 passes, Grow 1 more gets 15
-    ∷ replays
+    ∷ replays listing
     "444354 0100 00 0100 0000 0000 00FFFF 0002000000 00F4FFFFFF 0074000000"
     "DCT 1 1 0 0\ni g max\ni g max\nr 15\n"
     -- G: fresh defect set to Shrink, Grow 1 gets 14
-    ∷ replays
+    ∷ replays listing
     "444354 0100 00 0100 0000 0000 00FFFF 0002000000 0000000100 0074000000"
     "DCT 1 1 0 0\ni g max\ni g 0\nr 14\n"
     -- H: vertex 0 virtual, weight 4, only defect 1 with node 1: conflict node 1, none, vertices 1, 0, growth 4
-    ∷ replays
+    ∷ replays listing
     "444354 0100 00 0200 0100 0000 01FFFF 00FFFF 0000010004000000FFFF 0006000200 0200000000"
     "DCT 1 2 1 0\ni g 4\ns c 1 - 1 - 1 0 4 1 2147483643\n"
     -- I: DefectMatch, weight 4, Grow 2: no pairs; FindObstacle: pair 0, no limit
-    ∷ replays
+    ∷ replays listing
     "444354 0100 02 0200 0100 0100 00FFFF 00FFFF 0000010004000000FFFF 000000FFFF 0002000000 0006000200 00B4000000 0300000000 0004000000 0300000000"
     "DCT 1 2 1 1\ni g 4\ni g 2\ni c 0 1 0 1 0 1\np\ni g max\np 0\n"
     -- J: edges 0-1, 1-2, 2-3 of weight 2, 0, 0, defect 0: first search length 0, growth 2; second no limit
-    ∷ replays
+    ∷ replays listing
     "444354 0100 00 0400 0300 0000 00FFFF 00FFFF 00FFFF 00FFFF 0000010002000000FFFF 0100020000000000FFFF 0200030000000000FFFF 0002000000 0200000000 0200000000"
     "DCT 1 4 3 0\ni g 2\ns g 0 2 1 2147483645\ns g max 0 0 2147483645\n"
+    -- K: fetch weights of 3, 6, 8 under a virtual condition: 0, 2, 4
+    ∷ fetches
+    "444354 0100 01 0200 0300 0000 01FFFF 00FFFF 00000100030000000000 00000100060000000000 00000100080000000000"
+    (0 ∷ 2 ∷ 4 ∷ [])
+    -- L: words SetSpeed(5, Grow) 688128, SetBlossom(3, 7) 393245, AddDefectVertex(4, 0) 524290, Grow 2 180, reset 36, load 5 655404
+    ∷ carries 688_128 (Says (SetSpeed (record { 0 = 5 }) Grow))
+    ∷ carries 393_245 (Says (SetBlossom (record { 0 = 3 }) (record { 0 = 7 })))
+    ∷ carries 524_290 (Says (AddDefectVertex (record { 0 = 4 }) (record { 0 = 0 })))
+    ∷ carries 180 (Says (GrowBy 2))
+    ∷ carries 36 Reset
+    ∷ carries 655_404 (Says (LoadDefectsExternal (record { 0 = 5 })))
+    -- "3, 60 and 98304 get 12"
+    ∷ carries 3 (Refused NotCarried)
+    ∷ carries 60 (Refused NotCarried)
+    ∷ carries 98_304 (Refused NotCarried)
+    ∷ packs (SetSpeed (record { 0 = 5 }) Grow) (P.Word 688_128)
+    ∷ packs (SetBlossom (record { 0 = 3 }) (record { 0 = 7 })) (P.Word 393_245)
+    ∷ packs (AddDefectVertex (record { 0 = 4 }) (record { 0 = 0 })) (P.Word 524_290)
+    ∷ packs (GrowBy 2) (P.Word 180)
+    ∷ packs (LoadDefectsExternal (record { 0 = 5 })) (P.Word 655_404)
+    ∷ packs (LoadDefectsExternal (record { 0 = 32_768 })) (P.Refused OutOfBounds)
+    ∷ resets 36
+    -- "Readings to avoid"; propagation across two edges is J
     -- a FusionMatch that holds: its edge is not counted tight
-    ∷ replays
+    ∷ replays listing
     "444354 0100 03 0200 0100 0000 000500 00FFFF 00000100080000000000 0006000200 0034010000 0004000000 0300000000"
     "DCT 1 2 1 0\ni g 4\ni c - 1 - 1 0 1\ni g max\np 0\n"
     -- the cycle that loads a layer still has the reduced weight
-    ∷ replays
+    ∷ replays listing
     "444354 0100 01 0200 0100 0000 000500 00FFFF 00000100080000000000 0006000200 002C000A00 0004000000"
     "DCT 1 2 1 0\ni g 4\ni g 4\ni g 8\n"
     -- a search, a reset, a search with what is left
-    ∷ replays
+    ∷ replays listing
     "444354 0100 00 0200 0100 0000 00FFFF 00FFFF 0000010004000000FFFF 0002000000 0006000200 0101000000 0024000000 0002000000 0200000000"
     "DCT 1 2 1 0\ni g 4\ni g 2\ns g 0 1 1 0\nz\ni g 4\ns g 0 0 0 0\n"
+    -- refusals, each at its smallest
+    -- 1: another mark; version 2; a third flag; 11 bytes
+    ∷ replays listing
+    "444355 0100 00 0100 0000 0000 00FFFF"
+    "bad 1\n"
+    ∷ replays listing
+    "444354 0200 00 0100 0000 0000 00FFFF"
+    "bad 1\n"
+    ∷ replays listing
+    "444354 0100 04 0100 0000 0000 00FFFF"
+    "bad 1\n"
+    ∷ replays listing
+    "444354 0100 00 0100 0000 00"
+    "bad 1\n"
+    -- 2, 3, 4: V 0 and 257, E and U 1,025
+    ∷ replays listing
+    "444354 0100 00 0000 0000 0000"
+    "bad 2\n"
+    ∷ replays listing
+    "444354 0100 00 0101 0104 0000"
+    "bad 2\n"
+    ∷ replays listing
+    "444354 0100 00 0001 0104 0104"
+    "bad 3\n"
+    ∷ replays listing
+    "444354 0100 00 0001 0004 0104"
+    "bad 4\n"
+    -- 5: a byte is missing; no record is looked at before
+    ∷ replays listing
+    "444354 0100 00 0100 0000 0000 02FF"
+    "bad 5\n"
+    -- 6: default virtual 2; layer 32,768
+    ∷ replays listing
+    "444354 0100 00 0100 0000 0000 02FFFF"
+    "bad 6\n"
+    ∷ replays listing
+    "444354 0100 00 0100 0000 0000 000080"
+    "bad 6\n"
+    -- 7: an end not below V; a loop. 8 is looked at after 7
+    ∷ replays listing
+    "444354 0100 00 0200 0100 0000 00FFFF 00FFFF 0000020041420F00FFFF"
+    "bad 7\n"
+    ∷ replays listing
+    "444354 0100 00 0200 0100 0000 00FFFF 00FFFF 0100010004000000FFFF"
+    "bad 7\n"
+    -- 8: weight 1,000,001; 9 is looked at after it
+    ∷ replays listing
+    "444354 0100 00 0300 0100 0000 00FFFF 00FFFF 00FFFF 0000010041420F000200"
+    "bad 8\n"
+    ∷ replays listing
+    "444354 0100 00 0200 0100 0000 00FFFF 00FFFF 0000010040420F00FFFF"
+    "DCT 1 2 1 0\n"
+    -- 9: conditioned on a vertex that is no end, also without fusion
+    ∷ replays listing
+    "444354 0100 00 0300 0100 0000 00FFFF 00FFFF 00FFFF 00000100040000000200"
+    "bad 9\n"
+    -- 10: the 17th edge of vertex 0; 16 are taken
+    ∷ replays listing
+    "444354 0100 00 0200 1100 0000 00FFFF 00FFFF 0000010004000000FFFF 0000010004000000FFFF 0000010004000000FFFF 0000010004000000FFFF 0000010004000000FFFF 0000010004000000FFFF 0000010004000000FFFF 0000010004000000FFFF 0000010004000000FFFF 0000010004000000FFFF 0000010004000000FFFF 0000010004000000FFFF 0000010004000000FFFF 0000010004000000FFFF 0000010004000000FFFF 0000010004000000FFFF 0000010004000000FFFF"
+    "bad 10\n"
+    ∷ replays listing
+    "444354 0100 00 0200 1000 0000 00FFFF 00FFFF 0000010004000000FFFF 0000010004000000FFFF 0000010004000000FFFF 0000010004000000FFFF 0000010004000000FFFF 0000010004000000FFFF 0000010004000000FFFF 0000010004000000FFFF 0000010004000000FFFF 0000010004000000FFFF 0000010004000000FFFF 0000010004000000FFFF 0000010004000000FFFF 0000010004000000FFFF 0000010004000000FFFF 0000010004000000FFFF"
+    "DCT 1 2 16 0\n"
+    -- 11: kind 2; edge not below E; a vertex for kind 0; no end for kind 1; also without offloading
+    ∷ replays listing
+    "444354 0100 00 0200 0100 0100 00FFFF 00FFFF 0000010004000000FFFF 020000FFFF"
+    "bad 11\n"
+    ∷ replays listing
+    "444354 0100 00 0200 0100 0100 00FFFF 00FFFF 0000010004000000FFFF 000100FFFF"
+    "bad 11\n"
+    ∷ replays listing
+    "444354 0100 00 0200 0100 0100 00FFFF 00FFFF 0000010004000000FFFF 0000000000"
+    "bad 11\n"
+    ∷ replays listing
+    "444354 0100 00 0300 0100 0100 00FFFF 00FFFF 00FFFF 0000010004000000FFFF 0100000200"
+    "bad 11\n"
+    -- 12, and 13 for a negative maximum, which is no search begun; 18 for another kind ends the replay
+    ∷ replays listing
+    "444354 0100 00 0200 0100 0000 00FFFF 00FFFF 0000010004000000FFFF 0003000000 003C000000 0100000080 0200000000 0400000000 0300000000"
+    "DCT 1 2 1 0\nr 12\nr 12\nr 13\ns g max 0 0 2147483647\nr 18\n"
+    -- 18: a record cut short
+    ∷ replays listing
+    "444354 0100 00 0200 0100 0000 00FFFF 00FFFF 0000010004000000FFFF 00040000"
+    "DCT 1 2 1 0\nr 18\n"
+    -- the lowest vertex decides: 15 at vertex 0, though 1 gets 14
+    ∷ replays listing
+    "444354 0100 00 0200 0000 0000 00FFFF 00FFFF 0002000000 00F4FFFFFF 0006000200 0000000300 0074000000"
+    "DCT 1 2 0 0\ni g max\ni g max\ni g max\ni g 0\nr 15\n"
     ∷ []
 
-pub judged : map sees examples ≡ map says examples
+pub judged : map sees examples ≡ map expects examples
 unfolding examples sees
 judged = refl

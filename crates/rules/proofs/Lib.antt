@@ -1,2 +1,4 @@
 pub mod Text
+pub mod Computed
 pub mod Judged
+pub mod Recorded

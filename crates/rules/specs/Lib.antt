@@ -16,5 +16,4 @@ pub mod Pairs
 pub mod Search
 pub mod Image
 pub mod Run
-pub mod Ledger
 pub mod Listing

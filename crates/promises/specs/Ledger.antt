@@ -1,35 +1,40 @@
 -- Demand 3's sums: the growth steps of a run since its last reset, and what each is to a vertex. They are read off the run, not off stored
 -- totals.
-use Prim.Native.Nat.{ℕ}
+use Prim.Native.Nat.{ℕ, _+_}
 use mathlib.Core.Bool.{Bool, true, false}
 use mathlib.Core.List.{List, [], _∷_, _++_}
 use lib.Dec.{ltb}
 use lib.IntN.{ℤ, pos, negℤ, _+ℤ_}
 use lib.ListN.{getD}
 use Rattle.laws.specs.Choice.{_and_, _or_, pick}
 use Rattle.rules.specs.Graph.{hasLayer, inUse}
 use Rattle.rules.specs.Registers.{at}
 use Rattle.rules.specs.State.{withMaximum}
 use Rattle.rules.specs.Instruct.{instruct, verticesStalled}
 use Rattle.rules.specs.Search.{GrowthStep, search}
 use Rattle.rules.specs.Words.{unpacked}
 use Rattle.rules.specs.Run.{Call, execute, word, clear, seek, seekOn, list, call}
 use Rattle.rules.specs.declared.graph.Graph.{Graph}
 use Rattle.rules.specs.declared.state.State.{State}
 use Rattle.rules.specs.declared.finding.Answer.{Answer}
 use Rattle.rules.specs.declared.finding.Answer.the-variants.{Found, Refused}
 use Rattle.rules.specs.declared.instruction.CompactGrowState.{CompactGrowState}
 use Rattle.rules.specs.declared.instruction.CompactGrowState.the-variants.{Stay, Grow, Shrink}
 use Rattle.rules.specs.declared.instruction.Instruction.{Instruction}
 use Rattle.rules.specs.declared.instruction.Instruction.the-variants.{SetSpeed, SetBlossom, AddDefectVertex, FindObstacle, Grow as GrowBy, LoadDefectsExternal}
 use Rattle.rules.specs.declared.instruction.Unpacked.{Unpacked}
 use Rattle.rules.specs.declared.instruction.Unpacked.the-variants as U
 
 -- "length times the speed"
 abbrev pub times : CompactGrowState → ℕ → ℤ
 times Stay n = pos 0
 times Grow n = pos n
 times Shrink n = negℤ (pos n)
+
+-- the lengths of the steps, added
+unfoldable pub sum : List GrowthStep → ℕ
+sum [] = 0
+sum (e ∷ es) = sum es + e .length
 
 module _ (g : Graph) where
   unfoldable pub wasStalled : State → ℕ → Bool

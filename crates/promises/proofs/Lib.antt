@@ -1,0 +1,12 @@
+pub mod Round
+pub mod Stages
+pub mod Completed
+pub mod Kept
+pub mod Within
+pub mod Turns
+pub mod Reached
+pub mod Numbered
+pub mod Sums
+pub mod Searches
+pub mod Careful
+pub mod Demand3
