@@ -1,6 +1,6 @@
 -- What the functions of packing.rt turn on: a number fits its field exactly where document 01's bounds let it.
 use Prim.Native.Nat.{ℕ, suc, _^_, _<_, _≤_}
-use mathlib.Core.Path.{_≡_, refl, sym, _∙_, ap}
+use mathlib.Core.Path.{_≡_, refl, sym, _∙_}
 use mathlib.Core.Bool.{Bool, true, false}
 use lib.Dec.{leb, ltb, leb·suc-suc}
 use borrow.Author.Tests.{lt-ltb, le-ltb}
@@ -51,33 +51,46 @@ and-true false = refl
 at-most : (n most : ℕ) → ltb n (suc most) ≡ leb n most
 at-most n most = leb·suc-suc n most
 
-module _ {r : Packed} {i : Instruction} where
-  pub speed-packs : (n : NodeIndex) (s : CompactGrowState) {code : ℕ} → i ≡ SetSpeed n s → r ≡ packedAs (kindAt 0) (n .0) code → code ≡ speedCode s → r ≡ packed i
-  unfolding packed packedAs inBounds wordFor
-  speed-packs n s is e c = e ∙ rw (is, c, fits-speed s, and-true, at-most (n .0) 32_767)
+pub speed-packs : (n : NodeIndex) (s : CompactGrowState) (code : ℕ) → code ≡ speedCode s → packed (SetSpeed n s) ≡ packedAs (kindAt 0) (n .0) code
+unfolding packed packedAs inBounds wordFor
+speed-packs n s code e = rw (e, fits-speed s, and-true, at-most (n .0) 32_767)
 
-  pub blossom-packs : (n b : NodeIndex) → i ≡ SetBlossom n b → r ≡ packedAs (kindAt 1) (n .0) (b .0) → r ≡ packed i
-  unfolding packed packedAs inBounds wordFor
-  blossom-packs n b is e = e ∙ rw (is, at-most (n .0) 32_767, at-most (b .0) 32_767)
+pub blossom-packs : (n b : NodeIndex) → packed (SetBlossom n b) ≡ packedAs (kindAt 1) (n .0) (b .0)
+unfolding packed packedAs inBounds wordFor
+blossom-packs n b = rw (at-most (n .0) 32_767, at-most (b .0) 32_767)
 
-  pub defect-packs : (v : VertexIndex) (n : NodeIndex) → i ≡ AddDefectVertex v n → r ≡ packedAs (kindAt 2) (v .0) (n .0) → r ≡ packed i
-  unfolding packed packedAs inBounds wordFor
-  defect-packs v n is e = e ∙ rw (is, at-most (v .0) 32_767, at-most (n .0) 32_767)
+pub defect-packs : (v : VertexIndex) (n : NodeIndex) → packed (AddDefectVertex v n) ≡ packedAs (kindAt 2) (v .0) (n .0)
+unfolding packed packedAs inBounds wordFor
+defect-packs v n = rw (at-most (v .0) 32_767, at-most (n .0) 32_767)
 
-  pub obstacle-packs : i ≡ FindObstacle → r ≡ packedAs (kindAt 3) 0 0 → r ≡ packed i
-  unfolding packed packedAs inBounds wordFor _and_
-  obstacle-packs is e = e ∙ rw is
+pub obstacle-packs : packed FindObstacle ≡ packedAs (kindAt 3) 0 0
+unfolding packed packedAs inBounds wordFor _and_
+obstacle-packs = refl
 
-  pub grow-packs : (l : ℕ) → i ≡ GrowBy l → r ≡ packedAs (kindAt 6) l 0 → r ≡ packed i
-  unfolding packed packedAs inBounds wordFor
-  grow-packs l is e = e ∙ rw (is, and-true, at-most l 67_108_863)
-
-  pub load-packs : (t : LayerId) → i ≡ LoadDefectsExternal t → r ≡ packedAs (kindAt 5) (t .0) 0 → r ≡ packed i
-  unfolding packed packedAs inBounds wordFor
-  load-packs t is e = e ∙ rw (is, and-true, at-most (t .0) 32_767)
-
-pub reset-packs : {r : Packed} → r ≡ packedAs (kindAt 4) 0 0 → r ≡ packedReset
+pub reset-packs : packedReset ≡ packedAs (kindAt 4) 0 0
 unfolding packedReset packedAs _and_ pick
-reset-packs e = e
+reset-packs = refl
 
-pub ruleset packing = (speed-packs, blossom-packs, defect-packs, obstacle-packs, grow-packs, load-packs)
+pub load-packs : (t : LayerId) → packed (LoadDefectsExternal t) ≡ packedAs (kindAt 5) (t .0) 0
+unfolding packed packedAs inBounds wordFor
+load-packs t = rw (and-true, at-most (t .0) 32_767)
+
+pub grow-packs : (l : ℕ) → packed (GrowBy l) ≡ packedAs (kindAt 6) l 0
+unfolding packed packedAs inBounds wordFor
+grow-packs l = rw (and-true, at-most l 67_108_863)
+
+-- the arm for j of a match on i
+pub in-arm : {i j : Instruction} {r p : Packed} → i ≡ j → r ≡ p → packed j ≡ p → r ≡ packed i
+in-arm is e row = rw is (e ∙ sym row)
+
+pub ruleset packing = (in-arm, speed-packs, blossom-packs, defect-packs, obstacle-packs, load-packs, grow-packs)
+
+-- 13 is given exactly where document 01's bounds do not hold
+refused : (t : Bool) (w : ℕ) → pick t (Word w) (Refused OutOfBounds) ≡ Refused OutOfBounds → t ≡ false
+unfolding pick
+refused true w e = cc
+refused false w e = refl
+
+pub thirteen : (i : Instruction) → (packed i ≡ Refused OutOfBounds → inBounds i ≡ false) × (inBounds i ≡ false → packed i ≡ Refused OutOfBounds)
+unfolding packed pick
+thirteen i = (refused (inBounds i) (wordFor i), λ e. rw e)

@@ -1,11 +1,11 @@
 -- Field packing, once over place and width.
-use Prim.Native.Nat.{ℕ, _+_, _*_, _/_, _%_, _^_, _<_, _≤_}
-use mathlib.Core.Path.{_≡_, refl, _∙_, ap}
+use Prim.Native.Nat.{ℕ, _+_, _*_, _/_, _^_, _<_}
+use mathlib.Core.Path.{_≡_}
 use native.Mathlib.Nat.{add-assoc, add-mul, lt-of-lt-of-le, mod-lt, mul-assoc, mul-comm}
 use native.Mathlib.Omega.{arith}
 use lib.Arith.{digits-lt}
 use lib.Pow.{high, low, pow-add, pow-mono, pow-pos}
-use Rattle.rules.specs.Words.{fieldOf, wordOf}
+use Rattle.rules.specs.Words.{fieldOf}
 use Rattle.rules.specs.declared.instruction.Field.{Field}
 use Rattle.rules.specs.declared.instruction.WordKind.{WordKind}
 use Rattle.instruction.specs.Sound.{Sound, Fits}

@@ -8,7 +8,7 @@ pack-as-requires : tie.Need-pack-as-requires
 pack-as-requires c κs = search needs
 
 returns : tie.Need-returns
-returns c = reset-packs (c .pack-as .ensures)
+returns c = rw reset-packs (c .pack-as .ensures)
 
 pub pack-reset-spec : {M : Type 1} → statement M
 pack-reset-spec = tie.close (tie.spec pack-as-requires returns)
