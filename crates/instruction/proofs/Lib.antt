@@ -2,7 +2,8 @@ pub mod Table
 pub mod Fields
 pub mod Unpacking
 pub mod Bounds
-pub mod Carried
+pub mod KindOfWord
+pub mod UnpackOfPack
 pub mod Bits
-pub mod SpareBits
+pub mod PackOfUnpack
 pub mod ExampleL

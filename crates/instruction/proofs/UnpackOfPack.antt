@@ -1,24 +1,23 @@
--- Unpacking what was packed gives it back: the word's lowest bits tell its kind, and the field law its numbers.
-use Prim.Native.Nat.{ℕ, _+_, _*_, _-_, _/_, _%_, _^_, _<_}
+-- Unpacking what was packed gives it back: the word is found to be of its row's kind, and the field law reads its numbers.
+use Prim.Native.Nat.{ℕ, _+_, _*_, _-_, _^_, _<_}
 use mathlib.Core.Path.{_≡_, _∙_, ap}
 use mathlib.Core.Bool.{true}
-use mathlib.Core.Option.{none, some}
 use native.Mathlib.Nat.{mul-assoc, zero-add, zero-mul}
 use native.Mathlib.Omega.{arith}
-use lib.Dec.{eqb, leb, lit<}
+use lib.Dec.{leb, lit<}
 use lib.Pow.{pow-add}
-use borrow.Author.Tests.{leb-true, ne-eqb}
-use Rattle.laws.specs.Choice.{_and_, pick, and-left, and-right}
-use Rattle.laws.specs.First.{first, orElse}
-use Rattle.rules.specs.Words.{asks, fieldOf, inBounds, isKind, kindAt, kindIn, kindOfWord, speedAsked, unpacked, wordFor, wordOf}
+use borrow.Author.Tests.{leb-true}
+use Rattle.laws.specs.Choice.{and-left, and-right}
+use Rattle.rules.specs.Words.{asks, fieldOf, inBounds, kindAt, speedAsked, unpacked, wordFor, wordOf}
 use Rattle.rules.specs.declared.instruction.CompactGrowState.the-variants.{Stay, Grow, Shrink}
 use Rattle.rules.specs.declared.instruction.Instruction.{Instruction}
 use Rattle.rules.specs.declared.instruction.Instruction.the-variants.{SetSpeed, SetBlossom, AddDefectVertex, FindObstacle, Grow as GrowBy, LoadDefectsExternal}
 use Rattle.rules.specs.declared.instruction.Unpacked.the-variants.{Says, Reset}
 use Rattle.rules.specs.declared.instruction.WordKind.{WordKind}
 use Rattle.instruction.specs.Sound.{Sound}
-use Rattle.instruction.proofs.Table.{each-at, sound}
+use Rattle.instruction.proofs.Table.{sound}
 use Rattle.instruction.proofs.Fields.{read-back, below-a, fits}
+use Rattle.instruction.proofs.KindOfWord.{own-kind}
 
 -- both fields are read back
 module _ (kind : WordKind) (a b : ℕ) (s : Sound kind) (hb : b < 2 ^ (kind .b .width)) where
@@ -33,38 +32,6 @@ module _ (kind : WordKind) (a b : ℕ) (s : Sound kind) (hb : b < 2 ^ (kind .b .
       let e : kind .a .at ≡ gap + (kind .b .at + kind .b .width) = omega (arith, s .meets) in
       let over : a * 2 ^ (kind .a .at) ≡ a * 2 ^ gap * 2 ^ (kind .b .at + kind .b .width) = ap (λ (n : ℕ). a * 2 ^ n) e ∙ rw (pow-add 2 gap, mul-assoc) in
       rw over (read-back (kind .b) (a * 2 ^ gap) b _ hb (s .fixed))
-
--- the kind of a word by its six lowest bits
-module _ (w : ℕ) where
-  plain : w / 8 % 1 ≡ 0
-  plain = omega arith
-
-  speed-kind : w / 1 % 8 ≡ 0 → kindOfWord w ≡ some 0
-  unfolding kindOfWord first kindIn pick isKind fieldOf _and_
-  speed-kind l = simp (l, plain)
-
-  blossom-kind : w / 1 % 4 ≡ 1 → kindOfWord w ≡ some 1
-  unfolding kindOfWord first kindIn pick isKind fieldOf _and_
-  blossom-kind l = simp (ne-eqb (w / 1 % 8) 0 (λ e. omega arith), l, plain)
-
-  defect-kind : w / 1 % 4 ≡ 2 → kindOfWord w ≡ some 2
-  unfolding kindOfWord first kindIn pick isKind fieldOf _and_
-  defect-kind l = simp (ne-eqb (w / 1 % 8) 0 (λ e. omega arith), l, plain)
-
-  -- an extended word's code is looked up among the kinds from 3 on
-  extended : (code : ℕ) → w / 1 % 8 ≡ 4 → w / 8 % 8 ≡ code → kindOfWord w ≡ orElse (orElse (orElse (pick (eqb code 0) (some 3) none) (pick (eqb code 4) (some 4) none)) (pick (eqb code 5) (some 5) none)) (pick (eqb code 6) (some 6) none)
-  unfolding kindOfWord first kindIn pick isKind fieldOf _and_
-  extended code l c =
-      let q : w / 1 % 4 ≡ 0 = omega arith in
-      simp (l, q, c)
-
--- a word made from a row is of the row's kind
-own-kind : (a b k : ℕ) → k < 7 → kindOfWord (wordOf (kindAt k) a b) ≡ some k
-unfolding wordOf pick
-own-kind a b k h =
-    each-at (λ (j : ℕ). kindOfWord (wordOf (kindAt j) a b) ≡ some j) 7
-    (((((((tt, speed-kind _ (omega arith)), blossom-kind _ (omega arith)), defect-kind _ (omega arith)), extended _ 0 (omega arith) (omega arith)), extended _ 4 (omega arith) (omega arith)), extended _ 5 (omega arith) (omega arith)), extended _ 6 (omega arith) (omega arith))
-    k h
 
 -- a word made from a row says what the row asks, and has 32 bits
 carried : (k a b : ℕ) → k < 7 → a < 2 ^ (kindAt k .a .width) → b < 2 ^ (kindAt k .b .width) → (unpacked (wordOf (kindAt k) a b) ≡ asks k a b) × (wordOf (kindAt k) a b < 2 ^ 32)

@@ -1,14 +1,12 @@
 -- Packing what was unpacked gives the word with its spare bits zero: the numbers that were read fit their fields again.
-use Prim.Native.Nat.{ℕ, zero, suc, _^_, _<_}
+use Prim.Native.Nat.{ℕ, _^_, _<_}
 use mathlib.Core.Path.{_≡_, refl, _∙_}
-use mathlib.Core.Bool.{Bool, true, false}
 use mathlib.Core.Option.{Option, none, some}
 use native.Mathlib.Omega.{arith}
 use lib.Dec.{lit<}
 use borrow.Author.Tests.{eqb-true, lt-ltb}
 use Rattle.laws.specs.Choice.{_and_, pick, and-left, and-right}
-use Rattle.laws.specs.First.{first, orElse}
-use Rattle.rules.specs.Words.{asks, asksIn, isKind, kindAt, kindIn, kindOfWord, packed, packedReset, speedAsked, unpacked, wordOf}
+use Rattle.rules.specs.Words.{asks, asksIn, isKind, kindAt, kindOfWord, packed, packedReset, speedAsked, unpacked, wordOf}
 use Rattle.rules.specs.declared.instruction.CompactGrowState.the-variants.{Stay, Grow, Shrink}
 use Rattle.rules.specs.declared.instruction.Instruction.{Instruction}
 use Rattle.rules.specs.declared.instruction.Packed.{Packed}
@@ -21,6 +19,7 @@ use Rattle.instruction.proofs.Table.{each-at}
 use Rattle.instruction.proofs.Fields.{field-lt}
 use Rattle.instruction.proofs.Bounds.{speed-packs, blossom-packs, defect-packs, obstacle-packs, reset-packs, load-packs, grow-packs}
 use Rattle.instruction.proofs.Bits.{kept}
+use Rattle.instruction.proofs.KindOfWord.{kind-found}
 
 -- what was said, packed again; a refused word stays as it is
 abbrev again : Unpacked → Packed → Packed
@@ -81,36 +80,7 @@ module _ (a b : ℕ) where
   packs-again : (k : ℕ) → k < 7 → Again k
   packs-again k h = each-at Again 7 (((((((tt, again-speed), again-blossom), again-defect), again-obstacle), again-reset), again-load), again-grow) k h
 
--- what holds of each answer below n holds of the first
-module _ {B : Type 0} (P : B → Type 0) where
-  of-either : (x y : Option B) → ((b : B) → x ≡ some b → P b) → ((b : B) → y ≡ some b → P b) → (b : B) → orElse x y ≡ some b → P b
-  of-either none y px py b e = py b e
-  of-either (some a) y px py b e = px b e
-
-  of-first : (f : ℕ → Option B) (n : ℕ) → ((k : ℕ) → k < n → (b : B) → f k ≡ some b → P b) → (b : B) → first n f ≡ some b → P b
-  unfolding first
-  of-first f zero each b e =
-      let z : _≡_ {A = ℕ} 0 1 = cc in
-      absurd (omega arith)
-  of-first f (suc n) each b e = of-either (first n f) (f n) (of-first f n (λ k l. each k (omega arith))) (each n (omega arith)) b e
-
--- the kind that is found is in the table, and is the word's
-abbrev Found : ℕ → ℕ → Type 0
-Found w k = (k < 7) × (isKind (kindAt k) w ≡ true)
-
-kind-in : (w k : ℕ) → k < 7 → (is : Bool) → isKind (kindAt k) w ≡ is → (j : ℕ) → pick is (some k) none ≡ some j → Found w j
-unfolding pick
-kind-in w k h true e j q =
-    let same : k ≡ j = cc in
-    rw (← same) (h, e)
-kind-in w k h false e j q =
-    let z : _≡_ {A = ℕ} 0 1 = cc in
-    absurd (omega arith)
-
-kind-found : (w k : ℕ) → kindOfWord w ≡ some k → Found w k
-unfolding kindOfWord kindIn
-kind-found w k e = of-first (Found w) (kindIn w) 7 (λ j l b q. kind-in w j l (isKind (kindAt j) w) refl b q) k e
-
+-- so do the numbers that a word of that kind has in its fields
 module _ (w : ℕ) where
   of-kind : (found : Option ℕ) → kindOfWord w ≡ found → again (asksIn w found) (Word (usedIn w found)) ≡ Word (usedIn w found)
   unfolding isKind
