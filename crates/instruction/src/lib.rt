@@ -1,5 +1,4 @@
-// Instruction words, as instruction.rs has them: packing, and reading, which the Rust leaves to the hardware.
-// Both go by the one table of kinds.rt.
+// Instruction words, as instruction.rs has them: packing, and reading, of which the Rust has no more than a part.
 mod kinds;
 mod packing;
 mod reading;

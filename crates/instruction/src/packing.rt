@@ -27,6 +27,7 @@ fn word_of(kind: WordKind, a: u32, b: u32) -> u32
     placed(a, kind.a.at) + (placed(b, kind.b.at) + (placed(kind.code, 3) + kind.low))
 }
 
+// The word of the k-th kind with a in A and b in B; 13 where one does not fit its field.
 fn pack_as(k: usize, a: u32, b: u32) -> Packed
     requires { ⌜ k < 7 ⌝ }
     ensures { λ r. ⌜ r ≡ packedAs (kindAt k) a b ⌝ }

@@ -55,7 +55,7 @@ fn speed_asked(node: NodeIndex, code: u16) -> Unpacked
     Unpacked::Says(Instruction::SetSpeed { node, speed })
 }
 
-// What the k-th kind asks with a in A and b in B, if these are indices: every kind but Grow.
+// What the k-th kind asks with the indices a in A and b in B.
 fn asked_of(k: usize, a: u16, b: u16) -> Unpacked
     requires { ⌜ k < 6 ⌝ }
     ensures { λ r. ⌜ r ≡ asks k a b ⌝ }
@@ -76,6 +76,7 @@ fn asked_of(k: usize, a: u16, b: u16) -> Unpacked
     }
 }
 
+// What the k-th kind asks with a in A and b in B: a length for Grow, indices for the others.
 fn asked(k: usize, a: u32, b: u32) -> Unpacked
     requires { ⌜ (k < 7) × (b < 2 ^ 16) × (k < 6 → a < 2 ^ 16) ⌝ }
     ensures { λ r. ⌜ r ≡ asks k a b ⌝ }
