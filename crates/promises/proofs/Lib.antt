@@ -1,4 +1,3 @@
-pub mod Round
 pub mod Stages
 pub mod Completed
 pub mod Kept

@@ -28,7 +28,7 @@ use Rattle.rules.specs.declared.registers.PropagatingPeer.{PropagatingPeer}
 use Rattle.rules.specs.declared.registers.PropagatingPeer.the-variants.{Nobody, Leads}
 use mathlib.Core.Option.{Option, none, some}
 use Rattle.laws.specs.First.{first}
-use Rattle.promises.proofs.Round.{InRange, at-in-range, round}
+use Rattle.rules.specs.Round.{InRange, at-in-range, round}
 
 -- ---- a table of registers that fit
 module _ (f : ℕ → VertexRegisters) (fits : (v : ℕ) → InRange (f v)) (nv : ℕ) (rs : List ℕ) where

@@ -40,7 +40,7 @@ use Rattle.rules.specs.declared.registers.VertexRegisters.{VertexRegisters}
 use Rattle.rules.specs.declared.registers.Executed.{Executed}
 use Rattle.rules.specs.declared.registers.Executed.the-variants.{Done, BelowZero, AboveBound}
 use Rattle.promises.specs.Ledger.{times, wasStalled, wasWaiting, share, total, ifDone, ofInstruction, afterWord, noted, ledger}
-use Rattle.promises.proofs.Round.{InRange}
+use Rattle.rules.specs.Round.{InRange}
 use Rattle.promises.proofs.Stages.{fresh-fits, Bounded, bounded, doneAt, updateAt, executed-at, updated-at, executed-length, filled-at}
 use Rattle.promises.specs.Cycle.{afterExecute, afterUpdate}
 use Rattle.promises.proofs.Completed.{Completed, Told, step-tells}
