@@ -9,7 +9,7 @@ pub mod length;
 pub mod respond;
 
 ghost use mathlib.Core.Path.{_≡_};
-ghost use Prim.Native.Nat.{_+_, _/_, _%_, _<_, min};
+ghost use Prim.Native.Nat.{_/_, _%_, _<_, min};
 ghost use Rattle.laws.specs.Table.{paint};
 ghost use Rattle.rules.specs.Fetch.{fetchWeight};
 ghost use Rattle.rules.specs.Registers as Registers;

@@ -1,3 +1,2 @@
 pub mod Text
 pub mod Judged
-pub mod Round

@@ -1,5 +1,6 @@
 pub mod Numbers
 pub mod Registers
+pub mod Round
 pub mod Graph
 pub mod Fetch
 pub mod Units

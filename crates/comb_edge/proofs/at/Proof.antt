@@ -1,6 +1,6 @@
 -- The word at an index is viewed, and a view's grown amount has 26 bits.
-use Rattle.comb_edge.proofs.Bounds.{grown-small}
 use Rattle.rules.specs.Registers.{at}
+use Rattle.rules.specs.Round.{view-in-range}
 use borrow.Author.Needs.{needs}
 use Rattle.comb_edge.proofs.at.Statement.{statement}
 use Rattle.comb_edge.proofs.at.Tie as tie
@@ -19,7 +19,7 @@ view-requires c κs = search needs
 
 returns : tie.Need-returns
 unfolding at
-returns c = (c .view .ensures, rw (c .view .ensures) (grown-small _))
+returns c = (c .view .ensures, rw (c .view .ensures) (view-in-range _ .grown))
 
 pub at-spec : {M : Type 1} → statement M
 at-spec = tie.close (tie.spec cast-view mul-view element-copy-out-view view-requires returns)

@@ -15,38 +15,38 @@ abbrev μ-loop : tie.MeasureT-loop
 μ-loop edges weights registers ne out₀ n e₀ out e = n - e
 
 at-most-1024-requires : tie.Need-at-most-1024-requires Inv-loop μ-loop
-at-most-1024-requires c κs = search (needs, fills, fetched-at)
+at-most-1024-requires c κs = search needs
 
 loop-holds : tie.Need-loop-holds Inv-loop μ-loop
-loop-holds c = search (needs, fills, fetched-at)
+loop-holds c = search (needs, fills)
 
 mul-post-fetch-weight : tie.Need-mul-post-fetch-weight Inv-loop μ-loop
-mul-post-fetch-weight c = search (needs, fills, fetched-at)
+mul-post-fetch-weight c = search needs
 
 element-copy-out-post-fetch-weight : tie.Need-element-copy-out-post-fetch-weight Inv-loop μ-loop
-element-copy-out-post-fetch-weight c = search (needs, fills, fetched-at)
+element-copy-out-post-fetch-weight c = search needs
 
 mul-post-fetch-weight-2 : tie.Need-mul-post-fetch-weight-2 Inv-loop μ-loop
-mul-post-fetch-weight-2 c = search (needs, fills, fetched-at)
+mul-post-fetch-weight-2 c = search needs
 
 element-copy-out-post-fetch-weight-2 :
     tie.Need-element-copy-out-post-fetch-weight-2 Inv-loop μ-loop
-element-copy-out-post-fetch-weight-2 c = search (needs, fills, fetched-at)
+element-copy-out-post-fetch-weight-2 c = search needs
 
 post-fetch-weight-requires : tie.Need-post-fetch-weight-requires Inv-loop μ-loop
-post-fetch-weight-requires c κs = search (needs, fills, fetched-at)
+post-fetch-weight-requires c κs = search needs
 
 mul-out : tie.Need-mul-out Inv-loop μ-loop
-mul-out c = search (needs, fills, fetched-at)
+mul-out c = search needs
 
 element-write-out : tie.Need-element-write-out Inv-loop μ-loop
-element-write-out c = search (needs, fills, fetched-at)
+element-write-out c = search needs
 
 add-e : tie.Need-add-e Inv-loop μ-loop
-add-e c = search (needs, fills, fetched-at)
+add-e c = search needs
 
 loop-less : tie.Need-loop-less Inv-loop μ-loop
-loop-less c = search (needs, fills, fetched-at)
+loop-less c = search needs
 
 loop-again : tie.Need-loop-again Inv-loop μ-loop
 loop-again c = search (needs, fills, fetched-at)

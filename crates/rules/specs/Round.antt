@@ -1,16 +1,31 @@
--- A word keeps what is put in it: each register has bits of its own.
+-- A word keeps what is put in it, since each register has bits of its own: what is in range comes back.
 use Prim.Native.Nat.{ℕ, _/_, _%_, _<_, _≤_}
 use mathlib.Core.Path.{_≡_, refl}
 use mathlib.Core.Bool.{Bool, true, false}
+use mathlib.Core.List.{List}
 use native.Mathlib.Omega.{arith}
 use lib.Dec.{eqb}
+use lib.ListN.{getD}
 use Rattle.laws.specs.Choice.{pick}
 use Rattle.laws.specs.Fold.{bit}
 use Rattle.rules.specs.Numbers.{speedCode}
-use Rattle.rules.specs.Registers.{view, keep, speedOf}
+use Rattle.rules.specs.Registers.{view, keep, speedOf, at}
 use Rattle.rules.specs.declared.instruction.CompactGrowState.{CompactGrowState}
 use Rattle.rules.specs.declared.instruction.CompactGrowState.the-variants.{Stay, Grow, Shrink}
 use Rattle.rules.specs.declared.registers.VertexRegisters.{VertexRegisters}
+
+pub record InRange (x : VertexRegisters) : Type 0 where
+  pub grown : x .grown < 67_108_864
+  pub node : x .node .0 < 65_536
+  pub root : x .root .0 < 65_536
+
+pub view-in-range : (w : ℕ) → InRange (view w)
+unfolding view
+view-in-range w = record { grown = omega arith; node = omega arith; root = omega arith }
+
+pub at-in-range : (rs : List ℕ) (v : ℕ) → InRange (at rs v)
+unfolding at
+at-in-range rs v = view-in-range (getD rs v 0)
 
 code-small : (s : CompactGrowState) → speedCode s ≤ 2
 code-small Stay = omega arith
@@ -31,7 +46,7 @@ bit-back : (b : Bool) → eqb (bit b) 1 ≡ b
 bit-back true = refl
 bit-back false = refl
 
-module _ (x : VertexRegisters) (hg : x .grown < 67_108_864) (hn : x .node .0 < 65_536) (ht : x .root .0 < 65_536) where
+module _ (x : VertexRegisters) (h : InRange x) where
   grown-back : keep x % 67_108_864 ≡ x .grown
   unfolding keep
   grown-back = omega arith
