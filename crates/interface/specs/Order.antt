@@ -1,6 +1,5 @@
--- `fix_conflict_order`, and the unit of the reduction.
+-- The order of a conflict's sides.
 use Rattle.rules.specs.Search.{ordered}
-use Rattle.rules.specs.declared.finding.Length.the-variants.{NoLimit}
 use Rattle.rules.specs.declared.finding.Finding.{Finding}
 use Rattle.rules.specs.declared.finding.Finding.the-variants.{GrowLength, Conflict}
 

@@ -4,22 +4,9 @@ use rules::finding::Length;
 use rules::finding::Node;
 use rules::finding::Side;
 ghost use mathlib.Core.Path.{_≡_};
-ghost use Prim.Native.Nat.{min, max};
 ghost use Rattle.rules.specs.Reduce as Reduce;
 ghost use Rattle.rules.specs.Search.{ordered, isAbsent};
 ghost use Rattle.interface.specs.Order.{fixedOrder};
-
-fn lesser(a: u32, b: u32) -> u32
-    ensures { λ r. ⌜ r ≡ min a b ⌝ }
-{
-    if a < b { a } else { b }
-}
-
-fn greater(a: u32, b: u32) -> u32
-    ensures { λ r. ⌜ r ≡ max a b ⌝ }
-{
-    if a < b { b } else { a }
-}
 
 // "the least length"
 fn least(first: Length, second: Length) -> Length
@@ -29,13 +16,23 @@ fn least(first: Length, second: Length) -> Length
         Length::NoLimit => second,
         Length::Ahead(n) => match second {
             Length::NoLimit => first,
-            Length::Ahead(m) => Length::Ahead(lesser(n, m)),
+            Length::Ahead(m) => {
+                if m < n {
+                    return second;
+                }
+                first
+            }
             Length::Behind(_) => second,
         },
         Length::Behind(n) => match second {
             Length::NoLimit => first,
             Length::Ahead(_) => first,
-            Length::Behind(m) => Length::Behind(greater(n, m)),
+            Length::Behind(m) => {
+                if n < m {
+                    return second;
+                }
+                first
+            }
         },
     }
 }
