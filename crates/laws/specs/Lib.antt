@@ -4,3 +4,4 @@ pub mod Fold
 pub mod First
 pub mod Mask
 pub mod Listed
+pub mod Tests
