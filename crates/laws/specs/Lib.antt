@@ -4,4 +4,6 @@ pub mod Fold
 pub mod First
 pub mod Mask
 pub mod Listed
-pub mod Tests
+pub mod Connectives
+pub mod Stored
+pub mod Orders

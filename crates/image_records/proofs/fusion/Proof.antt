@@ -1,5 +1,5 @@
 -- The tests are the definition's.
-use Rattle.laws.specs.Tests.{or-is}
+use Rattle.laws.specs.Connectives.{or-is}
 use Rattle.rules.specs.Image.{fusion}
 use borrow.Author.Needs.{needs}
 use Rattle.image_records.proofs.fusion.Statement.{statement}

@@ -1,5 +1,5 @@
 -- The tests are the definition's, in its order.
-use Rattle.laws.specs.Tests.{and-is}
+use Rattle.laws.specs.Connectives.{and-is}
 use Rattle.rules.specs.Image.{isImage}
 use borrow.Author.Needs.{needs}
 use Rattle.image_records.proofs.is_image.Statement.{statement}

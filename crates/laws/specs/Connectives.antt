@@ -12,3 +12,19 @@ pub or-is : (a b : Bool) → (a || b) ≡ (a or b)
 unfolding _or_
 or-is true b = refl
 or-is false b = refl
+
+-- what a disjunction that failed says of its parts
+pub or-first : (a b : Bool) → (a or b) ≡ false → a ≡ false
+unfolding _or_
+or-first true b h = h
+or-first false b h = refl
+
+pub or-second : (a b : Bool) → (a or b) ≡ false → b ≡ false
+unfolding _or_
+or-second true b h = cc
+or-second false b h = h
+
+pub or-true : (a b : Bool) → b ≡ true → (a or b) ≡ true
+unfolding _or_
+or-true true b h = refl
+or-true false b h = h
