@@ -8,28 +8,23 @@ use Rattle.rules.specs.Image.{vertexCount, edgeCount, unitCount, headRefusal, v
 use Rattle.rules.specs.declared.refusal.Refusal.{Refusal}
 use Rattle.image_records.specs.Records.{headerOf}
 use Rattle.image_records.specs.declared.Header.{Header}
-use Rattle.image_refusal.specs.Accepted.{vertices-fit}
+use Rattle.image_refusal.specs.Accepted.{image-is, vertices-fit}
 use Rattle.image_refusal.specs.Check.{checkOf}
 use Rattle.image_refusal.specs.declared.Check.{Check}
 use Rattle.image_refusal.specs.declared.Check.the-variants.{Passed}
 use Rattle.image_refusal.proofs.Checks.{Stopped, passed, stopped, went-on}
-
-in-order : (o p : Option Refusal) → elim o [ some r ↦ some r | none ↦ p ] ≡ orElse o p
-in-order none p = refl
-in-order (some r) p = refl
 
 module _ (bs : List ℕ) (h : Header) (ph : h ≡ headerOf bs) where
   abbrev records : Option Refusal
   records =
       orElse (first (h .vertices) (vertexRefusal bs)) (orElse (first (h .edges) (edgeRefusal bs)) (first (h .units) (unitRefusal bs)))
 
-  image-is : imageRefusal bs ≡ orElse (headRefusal bs) records
-  unfolding imageRefusal
-  image-is = rw ph (in-order (headRefusal bs) _)
+  whole : imageRefusal bs ≡ orElse (headRefusal bs) records
+  whole = rw ph (image-is bs)
 
 module _ (bs : List ℕ) (k : Check) (pk : k ≡ checkOf (headRefusal bs)) where
   pub head-stops : Stopped k → k ≡ checkOf (imageRefusal bs)
-  head-stops s = rw (image-is bs (headerOf bs) refl) (stopped (headRefusal bs) _ k pk s)
+  head-stops s = rw (image-is bs) (stopped (headRefusal bs) _ k pk s)
 
   module _ (ok : k ≡ Passed) (h : Header) (ph : h ≡ headerOf bs) where
     pub vertices-known : h .vertices ≡ vertexCount bs
@@ -39,7 +34,7 @@ module _ (bs : List ℕ) (k : Check) (pk : k ≡ checkOf (headRefusal bs)) where
     vertices-below = rw vertices-known (vertices-fit bs (passed (headRefusal bs) k pk ok))
 
     records-decide : (c : Check) → c ≡ checkOf (records bs h ph) → c ≡ checkOf (imageRefusal bs)
-    records-decide c p = rw (image-is bs h ph) (went-on (headRefusal bs) _ k c pk ok p)
+    records-decide c p = rw (whole bs h ph) (went-on (headRefusal bs) _ k c pk ok p)
 
     module _ (k₁ : Check) (p₁ : k₁ ≡ checkOf (first (h .vertices) (vertexRefusal bs))) where
       pub vertices-stop : Stopped k₁ → k₁ ≡ checkOf (imageRefusal bs)

@@ -7,3 +7,5 @@ pub mod Listed
 pub mod Connectives
 pub mod Stored
 pub mod Orders
+pub mod Appended
+pub mod Begun

@@ -1,0 +1,3 @@
+pub mod Words
+pub mod UnitSteps
+pub mod Opens
