@@ -1,8 +1,8 @@
 -- The ways in and out of the units' functions, over variables.
 use Prim.Native.Nat.{ℕ, _≤_}
-use mathlib.Core.Path.{_≡_, refl, sym, ap, _∙_}
+use mathlib.Core.Path.{_≡_, sym, _∙_}
 use mathlib.Core.Bool.{Bool, true, false}
-use mathlib.Core.List.{List, []}
+use mathlib.Core.List.{List}
 use mathlib.Core.Option.{none}
 use native.Mathlib.Omega.{arith}
 use lib.ListN.{length, replicate}
@@ -11,18 +11,19 @@ use Rattle.laws.specs.Choice.{pick}
 use Rattle.laws.specs.Listed.{slots}
 use Rattle.laws.specs.Stored.{blank-table}
 use Rattle.laws.specs.Table.{table, length-table}
-use Rattle.rules.specs.Image.{edgeCount, unitCount, imageRefusal, offloading, unitWord, fusionWord, isConditioned, unitWords}
+use Rattle.rules.specs.Image.{imageRefusal, offloading, unitWord, fusionWord, isConditioned, unitWords}
 use Rattle.image_records.specs.Records.{headerOf}
 use Rattle.image_records.specs.declared.Header.{Header}
 use Rattle.image_refusal.specs.Accepted.{edges-fit, units-fit, head-passes}
-use Rattle.image.specs.Units.{wordsTo, unitsWith, unitsTo, unitsOf}
+use Rattle.image.specs.Units.{wordsTo, unitsTo, unitsOf}
 use Rattle.image.specs.declared.Units.{Units}
 
 module _ (bs : List ℕ) (u : ℕ) where
   pub count-listed : u ≡ length (wordsTo bs u 0)
   count-listed = count-none (table u (unitWord bs)) (fusionWord bs) (isConditioned bs) u (sym (length-table (unitWord bs) u))
 
-  pub units-end : (n e i : ℕ) (ws : List ℕ) → ws ≡ slots 2_048 (wordsTo bs u e) → i ≡ length (wordsTo bs u e) → e ≤ n → n ≤ e → record { count = i; words = ws } ≡ unitsTo bs u n
+  pub units-end : (n e i : ℕ) (ws : List ℕ) → ws ≡ slots 2_048 (wordsTo bs u e) → i ≡ length (wordsTo bs u e) → e ≤ n → n ≤ e
+      → record { count = i; words = ws } ≡ unitsTo bs u n
   unfolding unitsTo
   units-end n e i ws p q l g = let z : e ≡ n = omega arith in rw (p, q, z)
 

@@ -6,13 +6,12 @@ ghost use lib.ListN.{replicate};
 ghost use Rattle.laws.specs.Choice.{pick};
 ghost use Rattle.laws.specs.Listed.{slots};
 ghost use Rattle.laws.specs.Table.{table, paint};
-ghost use Rattle.rules.specs.Image.{fusion, edgeCount, edgeWeight, imageRefusal, vertexWord, condition, edgeWord, unitWord, fusionWord, isConditioned, graphOf, blankGraph, openedBy, opened};
+ghost use Rattle.rules.specs.Image.{fusion, edgeCount, edgeWeight, imageRefusal, vertexWord, condition, edgeWord, unitWord, fusionWord, isConditioned, graphOf, blankGraph, opened};
 ghost use Rattle.image.specs.Units.{unitsTo, unitsOf};
 use image_refusal::Check;
 use rules::graph::Graph;
 use rules::graph::Opened;
 use rules::graph::Opening;
-use rules::refusal::Refusal;
 
 // "Without bit 0, conditions and layers are checked, then ignored"
 fn unless_ignored(bytes: &[u8], x: u16) -> u16

@@ -1,6 +1,6 @@
 -- What one test more does to a check, and what a walk over the records shows of the first refusal.
 use Prim.Native.Nat.{ℕ, _+_, _≤_, _<_}
-use mathlib.Core.Path.{_≡_, refl, sym, ap, _∙_}
+use mathlib.Core.Path.{_≡_, refl, sym, _∙_}
 use mathlib.Core.Bool.{Bool, true, false}
 use mathlib.Core.List.{[], _∷_}
 use mathlib.Core.Option.{Option, none, some}
@@ -71,7 +71,8 @@ module _ (f : ℕ → Option Refusal) where
   pub walk-pass : (i : ℕ) (k : Check) → k ≡ checkOf (f i) → k ≡ Passed → first i f ≡ none → first (i + 1) f ≡ none
   walk-pass i k e h p = first-pass i f p (passed (f i) k e h)
 
-  stop-at : (i n : ℕ) (k : Check) (o : Option Refusal) → f i ≡ o → k ≡ checkOf o → Stopped k → i < n → first i f ≡ none → k ≡ checkOf (first n f)
+  stop-at : (i n : ℕ) (k : Check) (o : Option Refusal) → f i ≡ o → k ≡ checkOf o → Stopped k → i < n → first i f ≡ none
+      → k ≡ checkOf (first n f)
   unfolding checkOf
   stop-at i n k none q e h l p = let z : Stopped Passed = rw e at h in absurd (omega arith)
   stop-at i n k (some r) q e h l p = rw (first-stop i n f r l p q) e

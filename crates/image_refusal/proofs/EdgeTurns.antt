@@ -4,14 +4,14 @@ use Prim.Native.Nat.{ℕ, _+_, _≤_, _<_}
 use mathlib.Core.Path.{_≡_, refl, sym, ap, _∙_}
 use mathlib.Core.Bool.{Bool, true, false, _||_}
 use mathlib.Core.List.{List}
-use mathlib.Core.Option.{Option, none, some}
+use mathlib.Core.Option.{none}
 use native.Mathlib.Numerals.{add-one}
 use native.Mathlib.Omega.{arith}
 use lib.Dec.{eqb, leb}
 use lib.ListN.{getD, set, replicate}
 use mir.Syntax.{w8}
 use mir.Val.{Fits}
-use borrow.Author.Tests.{leb-false, eqb-true, eqb-false, eq-eqb, ne-eqb}
+use borrow.Author.Tests.{leb-false, eq-eqb, ne-eqb}
 use Rattle.laws.specs.Choice.{_or_}
 use Rattle.laws.specs.Connectives.{or-is, or-first, or-second, or-true}
 use Rattle.laws.specs.First.{first, orElse, first-pass, first-stop}
@@ -20,7 +20,6 @@ use Rattle.laws.specs.Fold.{upTo, bit}
 use Rattle.laws.specs.Table.{table, getD-table}
 use Rattle.laws.specs.Stored.{set-two, blank-table}
 use Rattle.rules.specs.Image.{refuseIf, vertexCount, edgeLeft, edgeRight, isEnd, edgesAt, edgeRefusal}
-use Rattle.rules.specs.declared.refusal.Refusal.{Refusal}
 use Rattle.rules.specs.declared.refusal.Refusal.the-variants as R
 use Rattle.image_records.specs.Records.{edgeRecord}
 use Rattle.image_records.specs.declared.EdgeRecord.{EdgeRecord}
@@ -85,7 +84,8 @@ module _ (bs : List ℕ) where
     unfolding edgeRefusal recordRefusal isEnd isEndOf
     edge-is = simp or-else-assoc
 
-module _ (bs : List ℕ) (e v : ℕ) (x : EdgeRecord) (k : Check) (px : x ≡ edgeRecord bs e) (pk : k ≡ checkOf (recordRefusal v x)) (pv : v ≡ vertexCount bs) where
+module _ (bs : List ℕ) (e v : ℕ) (x : EdgeRecord) (k : Check) (px : x ≡ edgeRecord bs e)
+    (pk : k ≡ checkOf (recordRefusal v x)) (pv : v ≡ vertexCount bs) where
   own : k ≡ checkOf (recordRefusal (vertexCount bs) (edgeRecord bs e))
   own = rw (← px, ← pv) pk
 
@@ -102,7 +102,10 @@ module _ (bs : List ℕ) (e v : ℕ) (x : EdgeRecord) (k : Check) (px : x ≡ ed
     at-right : getD ds (x .right) 0 ≡ edgesAt bs e (edgeRight bs e)
     at-right = here (x .right) (right-below v x k pk ok fits) ∙ ap (λ (y : EdgeRecord). edgesAt bs e (y .right)) px
 
-    full-is : (leb 16 (getD ds (x .left) 0) || leb 16 (getD ds (x .right) 0)) ≡ crowded bs e
+    abbrev full : Bool
+    full = leb 16 (getD ds (x .left) 0) || leb 16 (getD ds (x .right) 0)
+
+    full-is : full ≡ crowded bs e
     full-is = rw (at-left, at-right, or-is)
 
     left-is : x .left ≡ edgeLeft bs e
@@ -120,14 +123,14 @@ module _ (bs : List ℕ) (e v : ℕ) (x : EdgeRecord) (k : Check) (px : x ≡ ed
         (λ w h j. sym (counted bs e w ∙ rw (no-end bs e w h j) (omega arith))))
 
     module _ (p : first e (edgeRefusal bs) ≡ none) where
-      by-count : (b : Bool) → (leb 16 (getD ds (x .left) 0) || leb 16 (getD ds (x .right) 0)) ≡ b → edgeRefusal bs e ≡ refuseIf b R.Crowded
+      by-count : (b : Bool) → full ≡ b → edgeRefusal bs e ≡ refuseIf b R.Crowded
       by-count b h = edge-is bs e ∙ rw (passed _ k own ok, ← full-is, h)
 
-      pub stop-crowded : (n : ℕ) → e < n → (leb 16 (getD ds (x .left) 0) || leb 16 (getD ds (x .right) 0)) ≡ true → Refused R.Crowded ≡ checkOf (first n (edgeRefusal bs))
+      pub stop-crowded : (n : ℕ) → e < n → full ≡ true → Refused R.Crowded ≡ checkOf (first n (edgeRefusal bs))
       unfolding checkOf
       stop-crowded n l h = rw (first-stop e n (edgeRefusal bs) R.Crowded l p (by-count true h))
 
-      pub turn-first : (leb 16 (getD ds (x .left) 0) || leb 16 (getD ds (x .right) 0)) ≡ false → first (e + 1) (edgeRefusal bs) ≡ none
+      pub turn-first : full ≡ false → first (e + 1) (edgeRefusal bs) ≡ none
       turn-first h = first-pass e (edgeRefusal bs) p (by-count false h)
 
 pub ruleset edgeTurns = (left-below, right-below, fits-left, fits-right, start-counts, stop-record, turn-counts, stop-crowded, turn-first)

@@ -1,5 +1,4 @@
 -- The vertex that a unit record names, by its kind.
-use Prim.Native.Nat.{ℕ}
 use mathlib.Core.Path.{_≡_}
 use mathlib.Core.Bool.{Bool, not}
 use lib.Dec.{eqb}

@@ -1,10 +1,10 @@
 -- The ways out of `image_refusal`: the first part that refuses decides, and each part that passes leaves the decision to the rest.
 use Prim.Native.Nat.{ℕ, _≤_}
-use mathlib.Core.Path.{_≡_, refl, sym, ap, _∙_}
+use mathlib.Core.Path.{_≡_, ap}
 use mathlib.Core.List.{List}
-use mathlib.Core.Option.{Option, none, some}
+use mathlib.Core.Option.{Option}
 use Rattle.laws.specs.First.{first, orElse}
-use Rattle.rules.specs.Image.{vertexCount, edgeCount, unitCount, headRefusal, vertexRefusal, edgeRefusal, unitRefusal, imageRefusal}
+use Rattle.rules.specs.Image.{vertexCount, headRefusal, vertexRefusal, edgeRefusal, unitRefusal, imageRefusal}
 use Rattle.rules.specs.declared.refusal.Refusal.{Refusal}
 use Rattle.image_records.specs.Records.{headerOf}
 use Rattle.image_records.specs.declared.Header.{Header}
@@ -44,7 +44,8 @@ module _ (bs : List ℕ) (k : Check) (pk : k ≡ checkOf (headRefusal bs)) where
         pub edges-stop : Stopped k₂ → k₂ ≡ checkOf (imageRefusal bs)
         edges-stop s = records-decide k₂ (went-on _ _ k₁ k₂ p₁ ok₁ (stopped _ _ k₂ p₂ s))
 
-        pub units-decide : k₂ ≡ Passed → (k₃ : Check) → k₃ ≡ checkOf (first (h .units) (unitRefusal bs)) → k₃ ≡ checkOf (imageRefusal bs)
+        pub units-decide : k₂ ≡ Passed → (k₃ : Check) → k₃ ≡ checkOf (first (h .units) (unitRefusal bs))
+            → k₃ ≡ checkOf (imageRefusal bs)
         units-decide ok₂ k₃ p₃ = records-decide k₃ (went-on _ _ k₁ k₃ p₁ ok₁ (went-on _ _ k₂ k₃ p₂ ok₂ p₃))
 
 pub ruleset openings = (head-stops, vertices-known, vertices-below, vertices-stop, edges-stop, units-decide)

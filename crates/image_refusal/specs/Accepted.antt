@@ -4,11 +4,10 @@ use mathlib.Core.Path.{_≡_, refl, sym, _∙_}
 use mathlib.Core.Bool.{Bool, true, false, not}
 use mathlib.Core.List.{List}
 use mathlib.Core.Option.{Option, none, some}
-use native.Mathlib.Omega.{arith}
 use lib.Dec.{eqb, leb, ltb}
 use lib.ListN.{length}
-use borrow.Author.Tests.{leb-false, ltb-false, eqb-false}
-use Rattle.laws.specs.Choice.{_and_, _or_, pick}
+use borrow.Author.Tests.{leb-false, ltb-false}
+use Rattle.laws.specs.Choice.{_and_, _or_}
 use Rattle.laws.specs.Connectives.{or-first, or-second}
 use Rattle.laws.specs.First.{first, orElse}
 use Rattle.laws.specs.Orders.{none-first, none-next, first-each}
@@ -20,7 +19,8 @@ pub not-refused : (t : Bool) (r : Refusal) → refuseIf t r ≡ none → t ≡ f
 not-refused true r h = cc
 not-refused false r h = refl
 
-five-tests : (a b c d e : Bool) (p q r s t : Refusal) → orElse (refuseIf a p) (orElse (refuseIf b q) (orElse (refuseIf c r) (orElse (refuseIf d s) (refuseIf e t)))) ≡ none
+five-tests : (a b c d e : Bool) (p q r s t : Refusal)
+    → orElse (refuseIf a p) (orElse (refuseIf b q) (orElse (refuseIf c r) (orElse (refuseIf d s) (refuseIf e t)))) ≡ none
     → (b ≡ false) × (c ≡ false) × (d ≡ false) × (e ≡ false)
 five-tests true b c d e p q r s t h = (cc, cc, cc, cc)
 five-tests false true c d e p q r s t h = (cc, cc, cc, cc)
@@ -28,7 +28,8 @@ five-tests false false true d e p q r s t h = (cc, cc, cc, cc)
 five-tests false false false true e p q r s t h = (cc, cc, cc, cc)
 five-tests false false false false e p q r s t h = (refl, refl, refl, not-refused e t h)
 
-four-tests : (a b c d : Bool) (p q r s : Refusal) → orElse (refuseIf a p) (orElse (refuseIf b q) (orElse (refuseIf c r) (refuseIf d s))) ≡ none
+four-tests : (a b c d : Bool) (p q r s : Refusal)
+    → orElse (refuseIf a p) (orElse (refuseIf b q) (orElse (refuseIf c r) (refuseIf d s))) ≡ none
     → (a ≡ false) × (d ≡ false)
 four-tests true b c d p q r s h = (cc, cc)
 four-tests false true c d p q r s h = (cc, cc)
@@ -38,7 +39,8 @@ four-tests false false false d p q r s h = (refl, not-refused d s h)
 -- ---- the head
 
 module _ (bs : List ℕ) (h : headRefusal bs ≡ none) where
-  head-tests : (eqb (vertexCount bs) 0 or ltb 256 (vertexCount bs) ≡ false) × (ltb 1_024 (edgeCount bs) ≡ false) × (ltb 1_024 (unitCount bs) ≡ false) × (ltb (length bs) (sessionAt bs) ≡ false)
+  head-tests : (eqb (vertexCount bs) 0 or ltb 256 (vertexCount bs) ≡ false)
+      × (ltb 1_024 (edgeCount bs) ≡ false) × (ltb 1_024 (unitCount bs) ≡ false) × (ltb (length bs) (sessionAt bs) ≡ false)
   unfolding headRefusal
   head-tests = five-tests (not (isImage bs)) _ _ _ _ R.NotAnImage R.VertexCount R.EdgeCount R.UnitCount R.CutShort h
 
@@ -88,7 +90,9 @@ module _ (bs : List ℕ) (e : ℕ) (h : edgeRefusal bs e ≡ none) where
   edge-tests : (leb (vertexCount bs) (edgeLeft bs e) or leb (vertexCount bs) (edgeRight bs e) or eqb (edgeLeft bs e) (edgeRight bs e) ≡ false)
       × (leb 16 (edgesAt bs e (edgeLeft bs e)) or leb 16 (edgesAt bs e (edgeRight bs e)) ≡ false)
   unfolding edgeRefusal
-  edge-tests = four-tests _ (ltb 1_000_000 (edgeWeight bs e)) (not (eqb (edgeCondition bs e) 65_535) and not (isEnd bs (edgeCondition bs e) e)) _ R.EdgeEnds R.Weight R.Condition R.Crowded h
+  edge-tests =
+      four-tests _ (ltb 1_000_000 (edgeWeight bs e)) (not (eqb (edgeCondition bs e) 65_535) and not (isEnd bs (edgeCondition bs e) e)) _
+      R.EdgeEnds R.Weight R.Condition R.Crowded h
 
   pub left-inside : edgeLeft bs e < vertexCount bs
   left-inside = leb-false (vertexCount bs) (edgeLeft bs e) (or-first _ _ (or-first _ _ (edge-tests .0)))

@@ -1,6 +1,6 @@
 -- The code's answers in the words of rules/specs/Image.antt.
 use Prim.Native.Nat.{ℕ}
-use mathlib.Core.Bool.{Bool, true, false, not}
+use mathlib.Core.Bool.{Bool, not}
 use mathlib.Core.Option.{Option, none, some}
 use lib.Dec.{eqb, leb, ltb}
 use Rattle.laws.specs.Choice.{_and_, _or_, pick}

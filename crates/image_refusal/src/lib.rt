@@ -69,11 +69,11 @@ fn record_refusal(edge: EdgeRecord, vertices: u16) -> Check
     ensures { λ r. ⌜ r ≡ checkOf (recordRefusal vertices edge) ⌝ }
 {
     let outside = (vertices <= edge.left) | (vertices <= edge.right);
-    let unbound = !(edge.condition == 65535) & !is_end(edge.condition, edge);
+    let stray = !(edge.condition == 65535) & !is_end(edge.condition, edge);
     Check::Passed
         .refuse_if(outside | (edge.left == edge.right), Refusal::EdgeEnds)
         .refuse_if(edge.weight > 1000000, Refusal::Weight)
-        .refuse_if(unbound, Refusal::Condition)
+        .refuse_if(stray, Refusal::Condition)
 }
 
 // "vertex not 65,535 for kind 0, not an end for kind 1"

@@ -1,9 +1,9 @@
 -- A list that grows at its end, and the array that it stands in from the start on.
-use Prim.Native.Nat.{ℕ, zero, suc, _+_, _≤_, _<_}
+use Prim.Native.Nat.{ℕ, zero, suc, _+_, _≤_}
 use mathlib.Core.Path.{_≡_, refl, sym, ap, _∙_}
 use mathlib.Core.Bool.{Bool, true, false}
 use mathlib.Core.List.{List, [], _∷_, _++_, map, append-nil, append-assoc}
-use native.Mathlib.Nat.{zero-add, add-suc, suc-add, add-zero}
+use native.Mathlib.Nat.{zero-add, add-zero}
 use native.Mathlib.Numerals.{add-one}
 use native.Mathlib.Omega.{arith}
 use lib.ListN.{length, getD, set, replicate, length-append}
@@ -77,7 +77,8 @@ module _ (xs : List ℕ) (g : ℕ → ℕ) (p : ℕ → Bool) where
 
   module _ (e : ℕ) (b : Bool) (q : b ≡ p e) where
     module _ (t : b ≡ true) where
-      pub also-yes : (m i v : ℕ) (ys : List ℕ) → ys ≡ slots m (extended xs g p e) → i ≡ length (extended xs g p e) → v ≡ g e → set ys i v ≡ slots m (extended xs g p (e + 1))
+      pub also-yes : (m i v : ℕ) (ys : List ℕ) → ys ≡ slots m (extended xs g p e) → i ≡ length (extended xs g p e) → v ≡ g e
+          → set ys i v ≡ slots m (extended xs g p (e + 1))
       also-yes m i v ys h j r = rw (r, yes e (sym q ∙ t)) (push m i (g e) (extended xs g p e) ys h j)
 
       pub count-yes : (i : ℕ) → i ≡ length (extended xs g p e) → i + 1 ≡ length (extended xs g p (e + 1))

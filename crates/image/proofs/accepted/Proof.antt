@@ -1,6 +1,6 @@
 -- Nothing refused the image, so it is opened to its graph.
-use Rattle.image.proofs.Opens.{opens}
 use borrow.Author.Needs.{needs}
+use Rattle.image.proofs.Opens.{opens}
 use Rattle.image.proofs.accepted.Statement.{statement}
 use Rattle.image.proofs.accepted.Tie as tie
 

@@ -1,16 +1,19 @@
+-- Behind the listed units stand the FusionMatches of the conditioned edges before e, each appended at its turn.
 use Prim.Native.Nat.{_≤_, _-_, _+_}
 use mathlib.Core.Path.{_≡_}
 use lib.ListN.{length}
+use borrow.Author.Needs.{needs}
 use Rattle.laws.specs.Appended.{alsos}
 use Rattle.laws.specs.Listed.{slots}
 use Rattle.image.specs.Units.{wordsTo}
 use Rattle.image.proofs.UnitSteps.{unitSteps}
-use borrow.Author.Needs.{needs}
 use Rattle.image.proofs.all_units.Statement.{statement}
 use Rattle.image.proofs.all_units.Tie as tie
 
 abbrev Inv-loop : tie.InvT-loop
-Inv-loop bytes listed edges words₀ count₀ e₀ words count e = (e ≤ edges) × (count ≤ 1_024 + e) × (count ≡ length (wordsTo bytes listed e)) × (words ≡ slots 2_048 (wordsTo bytes listed e))
+Inv-loop bytes listed edges words₀ count₀ e₀ words count e =
+    (e ≤ edges) × (count ≤ 1_024 + e)
+    × (count ≡ length (wordsTo bytes listed e)) × (words ≡ slots 2_048 (wordsTo bytes listed e))
 
 abbrev μ-loop : tie.MeasureT-loop
 μ-loop bytes listed edges words₀ count₀ e₀ words count e = edges - e

@@ -1,6 +1,6 @@
 -- Every table is blank.
-use Rattle.rules.specs.Image.{blankGraph}
 use borrow.Author.Needs.{needs}
+use Rattle.rules.specs.Image.{blankGraph}
 use Rattle.image.proofs.blank_graph.Statement.{statement}
 use Rattle.image.proofs.blank_graph.Tie as tie
 

@@ -1,6 +1,6 @@
 -- The record's field, kept or hidden.
-use Rattle.image.proofs.Words.{words}
 use borrow.Author.Needs.{needs}
+use Rattle.image.proofs.Words.{words}
 use Rattle.image.proofs.condition.Statement.{statement}
 use Rattle.image.proofs.condition.Tie as tie
 

@@ -1,10 +1,11 @@
-use Rattle.laws.specs.Begun.{paint-begun}
+-- The table is painted with the definition's words up to e.
 use Prim.Native.Nat.{_≤_, _-_}
 use mathlib.Core.Path.{_≡_}
 use lib.ListN.{replicate}
+use borrow.Author.Needs.{needs}
+use Rattle.laws.specs.Begun.{paint-begun}
 use Rattle.laws.specs.Table.{paint, fills}
 use Rattle.rules.specs.Image.{edgeWord}
-use borrow.Author.Needs.{needs}
 use Rattle.image.proofs.edge_table.Statement.{statement}
 use Rattle.image.proofs.edge_table.Tie as tie
 

@@ -1,6 +1,6 @@
 -- The definition's sum; it fits, since an accepted edge's ends are below 256.
-use Rattle.image.proofs.Words.{words}
 use borrow.Author.Needs.{needs}
+use Rattle.image.proofs.Words.{words}
 use Rattle.image.proofs.edge_word.Statement.{statement}
 use Rattle.image.proofs.edge_word.Tie as tie
 

@@ -1,6 +1,6 @@
 -- The definition's sum.
-use Rattle.rules.specs.Image.{fusionWord}
 use borrow.Author.Needs.{needs}
+use Rattle.rules.specs.Image.{fusionWord}
 use Rattle.image.proofs.fusion_word.Statement.{statement}
 use Rattle.image.proofs.fusion_word.Tie as tie
 

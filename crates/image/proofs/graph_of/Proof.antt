@@ -1,7 +1,7 @@
 -- Each table is the definition's.
+use borrow.Author.Needs.{needs}
 use Rattle.image.proofs.UnitSteps.{few-edges}
 use Rattle.image.proofs.Opens.{opens}
-use borrow.Author.Needs.{needs}
 use Rattle.image.proofs.graph_of.Statement.{statement}
 use Rattle.image.proofs.graph_of.Tie as tie
 

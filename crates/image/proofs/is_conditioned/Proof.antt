@@ -1,6 +1,6 @@
 -- The definition's test.
-use Rattle.rules.specs.Image.{isConditioned}
 use borrow.Author.Needs.{needs}
+use Rattle.rules.specs.Image.{isConditioned}
 use Rattle.image.proofs.is_conditioned.Statement.{statement}
 use Rattle.image.proofs.is_conditioned.Tie as tie
 

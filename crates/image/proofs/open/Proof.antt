@@ -1,6 +1,6 @@
 -- The first refusal decides; without one the image is opened.
-use Rattle.image.proofs.Opens.{opens}
 use borrow.Author.Needs.{needs}
+use Rattle.image.proofs.Opens.{opens}
 use Rattle.image.proofs.open.Statement.{statement}
 use Rattle.image.proofs.open.Tie as tie
 

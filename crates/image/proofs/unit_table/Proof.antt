@@ -1,10 +1,11 @@
+-- The words before u stand from the start on.
 use Prim.Native.Nat.{_≤_, _-_}
 use mathlib.Core.Path.{_≡_}
+use borrow.Author.Needs.{needs}
 use Rattle.laws.specs.Appended.{eachs}
 use Rattle.laws.specs.Listed.{slots}
 use Rattle.laws.specs.Table.{table}
 use Rattle.rules.specs.Image.{unitWord}
-use borrow.Author.Needs.{needs}
 use Rattle.image.proofs.unit_table.Statement.{statement}
 use Rattle.image.proofs.unit_table.Tie as tie
 

@@ -1,6 +1,6 @@
 -- The definition's sum, by the unit's kind.
-use Rattle.image.proofs.Words.{words}
 use borrow.Author.Needs.{needs}
+use Rattle.image.proofs.Words.{words}
 use Rattle.image.proofs.unit_word.Statement.{statement}
 use Rattle.image.proofs.unit_word.Tie as tie
 

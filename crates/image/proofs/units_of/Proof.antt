@@ -1,6 +1,6 @@
 -- By the flag.
-use Rattle.image.proofs.UnitSteps.{unitSteps}
 use borrow.Author.Needs.{needs}
+use Rattle.image.proofs.UnitSteps.{unitSteps}
 use Rattle.image.proofs.units_of.Statement.{statement}
 use Rattle.image.proofs.units_of.Tie as tie
 

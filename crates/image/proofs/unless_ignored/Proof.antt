@@ -1,6 +1,6 @@
 -- By the flag.
-use Rattle.image.proofs.Words.{flags}
 use borrow.Author.Needs.{needs}
+use Rattle.image.proofs.Words.{flags}
 use Rattle.image.proofs.unless_ignored.Statement.{statement}
 use Rattle.image.proofs.unless_ignored.Tie as tie
 

@@ -1,6 +1,6 @@
 -- The definition's sum.
-use Rattle.image.proofs.Words.{words}
 use borrow.Author.Needs.{needs}
+use Rattle.image.proofs.Words.{words}
 use Rattle.image.proofs.vertex_word.Statement.{statement}
 use Rattle.image.proofs.vertex_word.Tie as tie
 

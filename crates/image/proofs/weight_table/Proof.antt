@@ -1,11 +1,12 @@
-use Rattle.laws.specs.Begun.{paint-begun}
+-- The table is painted with the records' weights up to e.
 use Prim.Native.Nat.{_≤_, _-_}
 use mathlib.Core.Path.{_≡_}
 use lib.ListN.{replicate}
-use Rattle.laws.specs.Table.{paint, fills}
-use Rattle.image.proofs.Words.{weight-is}
-use Rattle.rules.specs.Image.{edgeWeight}
 use borrow.Author.Needs.{needs}
+use Rattle.laws.specs.Begun.{paint-begun}
+use Rattle.laws.specs.Table.{paint, fills}
+use Rattle.rules.specs.Image.{edgeWeight}
+use Rattle.image.proofs.Words.{weight-is}
 use Rattle.image.proofs.weight_table.Statement.{statement}
 use Rattle.image.proofs.weight_table.Tie as tie
 
@@ -16,13 +17,13 @@ abbrev μ-loop : tie.MeasureT-loop
 μ-loop bytes n weights₀ e₀ weights e = n - e
 
 no-edges-requires : tie.Need-no-edges-requires Inv-loop μ-loop
-no-edges-requires c κs = search (needs, fills, weight-is)
+no-edges-requires c κs = search needs
 
 loop-holds : tie.Need-loop-holds Inv-loop μ-loop
 loop-holds c = search (needs, paint-begun)
 
 edge-record-requires : tie.Need-edge-record-requires Inv-loop μ-loop
-edge-record-requires c κs = search (needs, fills, weight-is)
+edge-record-requires c κs = search needs
 
 cast-weights : tie.Need-cast-weights Inv-loop μ-loop
 cast-weights c = search (needs, fills, weight-is)
@@ -43,7 +44,7 @@ loop-again : tie.Need-loop-again Inv-loop μ-loop
 loop-again c = search (needs, fills, weight-is)
 
 returns : tie.Need-returns Inv-loop μ-loop
-returns c = search (needs, fills, weight-is)
+returns c = search (needs, fills)
 
 pub weight-table-spec : {M : Type 1} → statement M
 weight-table-spec =

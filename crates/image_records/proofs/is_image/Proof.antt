@@ -1,7 +1,7 @@
 -- The tests are the definition's, in its order.
+use borrow.Author.Needs.{needs}
 use Rattle.laws.specs.Connectives.{and-is}
 use Rattle.rules.specs.Image.{isImage}
-use borrow.Author.Needs.{needs}
 use Rattle.image_records.proofs.is_image.Statement.{statement}
 use Rattle.image_records.proofs.is_image.Tie as tie
 

@@ -1,6 +1,6 @@
 -- The low byte comes first.
-use Rattle.rules.specs.Image.{u16At}
 use borrow.Author.Needs.{needs}
+use Rattle.rules.specs.Image.{u16At}
 use Rattle.image_records.proofs.u16_at.Statement.{statement}
 use Rattle.image_records.proofs.u16_at.Tie as tie
 

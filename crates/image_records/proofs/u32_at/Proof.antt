@@ -1,6 +1,6 @@
 -- The low half comes first.
-use Rattle.rules.specs.Image.{u32At}
 use borrow.Author.Needs.{needs}
+use Rattle.rules.specs.Image.{u32At}
 use Rattle.image_records.proofs.u32_at.Statement.{statement}
 use Rattle.image_records.proofs.u32_at.Tie as tie
 

@@ -1,12 +1,13 @@
-use Rattle.image_refusal.proofs.Checks.{walks}
-use Rattle.image_refusal.proofs.EdgeTurns.{edgeTurns, fits-left, fits-right}
+-- No edge before e refuses, and the counts are those of the edges before e; the first edge that does refuse decides.
 use Prim.Native.Nat.{_≤_, _-_}
 use mathlib.Core.Path.{_≡_}
 use mathlib.Core.Option.{none}
+use borrow.Author.Needs.{needs}
 use Rattle.laws.specs.First.{first}
 use Rattle.laws.specs.Table.{table}
 use Rattle.rules.specs.Image.{edgesAt, edgeRefusal}
-use borrow.Author.Needs.{needs}
+use Rattle.image_refusal.proofs.Checks.{walks}
+use Rattle.image_refusal.proofs.EdgeTurns.{edgeTurns, fits-left, fits-right}
 use Rattle.image_refusal.proofs.edges_refusal.Statement.{statement}
 use Rattle.image_refusal.proofs.edges_refusal.Tie as tie
 

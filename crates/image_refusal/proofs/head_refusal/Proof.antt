@@ -1,9 +1,9 @@
 -- Each test stands after the ones before it, as in the definition.
+use borrow.Author.Needs.{needs}
 use Rattle.laws.specs.Connectives.{or-is}
+use Rattle.laws.specs.Orders.{or-else-assoc}
 use Rattle.rules.specs.Image.{headRefusal}
 use Rattle.image_refusal.proofs.Checks.{test-first, test-next}
-use Rattle.laws.specs.Orders.{or-else-assoc}
-use borrow.Author.Needs.{needs}
 use Rattle.image_refusal.proofs.head_refusal.Statement.{statement}
 use Rattle.image_refusal.proofs.head_refusal.Tie as tie
 
@@ -27,7 +27,19 @@ refuse-if-requires-5 c κs = search needs
 
 returns : tie.Need-returns
 unfolding headRefusal
-returns c = simp (c .refuse-if5 .ensures, c .before .before .refuse-if4 .ensures, c .before .before .before .before .refuse-if3 .ensures, c .before .before .before .before .before .before .refuse-if2 .ensures, c .before .before .before .before .before .before .before .before .before .refuse-if .ensures, c .before .before .before .before .before .before .before .before .before .before .before .read-header .ensures, test-first, test-next, or-else-assoc, or-is)
+returns c =
+    simp (
+      c .refuse-if5 .ensures,
+      c .before .before .refuse-if4 .ensures,
+      c .before .before .before .before .refuse-if3 .ensures,
+      c .before .before .before .before .before .before .refuse-if2 .ensures,
+      c .before .before .before .before .before .before .before .before .before .refuse-if .ensures,
+      c .before .before .before .before .before .before .before .before .before .before .before .read-header .ensures,
+      test-first,
+      test-next,
+      or-else-assoc,
+      or-is,
+    )
 
 pub head-refusal-spec : {M : Type 1} → statement M
 head-refusal-spec =

@@ -1,6 +1,6 @@
 -- The head first, then vertices, edges and units: the first that refuses decides.
-use Rattle.image_refusal.proofs.Opening.{openings}
 use borrow.Author.Needs.{needs}
+use Rattle.image_refusal.proofs.Opening.{openings}
 use Rattle.image_refusal.proofs.image_refusal.Statement.{statement}
 use Rattle.image_refusal.proofs.image_refusal.Tie as tie
 

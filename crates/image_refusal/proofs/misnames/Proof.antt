@@ -1,6 +1,6 @@
 -- By the unit's kind.
-use Rattle.image_refusal.proofs.Named.{names}
 use borrow.Author.Needs.{needs}
+use Rattle.image_refusal.proofs.Named.{names}
 use Rattle.image_refusal.proofs.misnames.Statement.{statement}
 use Rattle.image_refusal.proofs.misnames.Tie as tie
 

@@ -1,9 +1,9 @@
 -- The test is the definition's.
+use borrow.Author.Needs.{needs}
 use Rattle.laws.specs.Connectives.{or-is}
 use Rattle.rules.specs.Image.{unitRefusal, isEnd}
 use Rattle.image_refusal.specs.Check.{isEndOf, misnames}
 use Rattle.image_refusal.proofs.Checks.{test-first}
-use borrow.Author.Needs.{needs}
 use Rattle.image_refusal.proofs.unit_refusal.Statement.{statement}
 use Rattle.image_refusal.proofs.unit_refusal.Tie as tie
 
@@ -24,7 +24,16 @@ refuse-if-requires c κs = search needs
 
 returns : tie.Need-returns
 unfolding unitRefusal isEnd isEndOf misnames
-returns c = simp (c .refuse-if .ensures, c .before .misnames .ensures, c .before .before .before .before .edge-record .ensures, c .before .before .before .before .before .unit-record .ensures, c .before .before .before .before .before .before .read-header .ensures, test-first, or-is)
+returns c =
+    simp (
+      c .refuse-if .ensures,
+      c .before .misnames .ensures,
+      c .before .before .before .before .edge-record .ensures,
+      c .before .before .before .before .before .unit-record .ensures,
+      c .before .before .before .before .before .before .read-header .ensures,
+      test-first,
+      or-is,
+    )
 
 pub unit-refusal-spec : {M : Type 1} → statement M
 unit-refusal-spec =

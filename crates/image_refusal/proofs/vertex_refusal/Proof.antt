@@ -1,8 +1,8 @@
 -- The test is the definition's.
+use borrow.Author.Needs.{needs}
 use Rattle.laws.specs.Connectives.{and-is, or-is}
 use Rattle.rules.specs.Image.{vertexRefusal}
 use Rattle.image_refusal.proofs.Checks.{test-first}
-use borrow.Author.Needs.{needs}
 use Rattle.image_refusal.proofs.vertex_refusal.Statement.{statement}
 use Rattle.image_refusal.proofs.vertex_refusal.Tie as tie
 

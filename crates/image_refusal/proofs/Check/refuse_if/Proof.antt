@@ -1,6 +1,6 @@
 -- A check that stopped stays; one that passed goes by the test.
-use Rattle.image_refusal.proofs.Checks.{tested}
 use borrow.Author.Needs.{needs}
+use Rattle.image_refusal.proofs.Checks.{tested}
 use Rattle.image_refusal.proofs.Check.refuse_if.Statement.{statement}
 use Rattle.image_refusal.proofs.Check.refuse_if.Tie as tie
 
