@@ -141,7 +141,9 @@ def cases():
         yield good.data()
         yield good.data() + bytes(range(50))
         for length in range(len(good.data())):
-            yield good.data()[:length]
+            prefix = good.data()[:length]
+            assert line(prefix) == ("bad 1" if length < 12 else "bad 5")
+            yield prefix
     good, most = small(3), large(3)
     # 1
     for mark in (b"CCT", b"DDT", b"DCU", b"dct"):

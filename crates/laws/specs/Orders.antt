@@ -1,4 +1,4 @@
--- Refusals in order: which of several alternatives answers, and what none of them answering says of each.
+-- Alternatives in order: which of them answers, and what it says of each that none does.
 use Prim.Native.Nat.{ℕ, zero, suc, _<_}
 use mathlib.Core.Path.{_≡_, refl}
 use mathlib.Core.Bool.{Bool, true, false}
