@@ -5,3 +5,8 @@ pub mod Fold
 pub mod First
 pub mod Mask
 pub mod Listed
+pub mod Connectives
+pub mod Stored
+pub mod Orders
+pub mod Appended
+pub mod Begun

@@ -1,0 +1,4 @@
+pub mod Words
+pub mod UnitSteps
+pub mod Opens
+pub mod InUse
