@@ -4,3 +4,6 @@ pub mod Fold
 pub mod First
 pub mod Mask
 pub mod Listed
+pub mod Leading
+pub mod Stored
+pub mod Walk
