@@ -1,6 +1,6 @@
 -- How many indices from 0 on pass a test: the first below n that fails ends them.
 use Prim.Native.Nat.{ℕ, zero, suc, _+_, _≤_, _<_}
-use mathlib.Core.Path.{_≡_, refl, sym, ap, _∙_}
+use mathlib.Core.Path.{_≡_, refl}
 use mathlib.Core.Bool.{Bool, true, false}
 use native.Mathlib.Decide.{le-ind}
 use native.Mathlib.Nat.{not-suc-le-zero}

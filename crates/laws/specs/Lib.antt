@@ -6,4 +6,5 @@ pub mod Mask
 pub mod Listed
 pub mod Leading
 pub mod Stored
+pub mod Lists
 pub mod Walk

@@ -2,9 +2,9 @@
 use Prim.Native.Nat.{ℕ, zero, suc, _+_, _<_}
 use mathlib.Core.Path.{_≡_, refl, sym, ap, _∙_}
 use mathlib.Core.Bool.{Bool, true, false}
-use mathlib.Core.List.{List, [], _∷_, _++_, map, append-nil}
+use mathlib.Core.List.{List, [], _∷_, _++_}
 use mathlib.Core.Option.{Option, none, some}
-use native.Mathlib.Nat.{add-zero, le-of-suc-le-suc, not-suc-le-zero}
+use native.Mathlib.Nat.{add-zero}
 use native.Mathlib.Numerals.{add-one}
 use native.Mathlib.Omega.{arith}
 use lib.ListN.{length, getD, length-append, List·getD-append}
@@ -13,34 +13,7 @@ use Rattle.laws.specs.Choice.{_and_, pick}
 use Rattle.laws.specs.Fold.{upTo, bit, countTo}
 use Rattle.laws.specs.First.{first, orElse}
 use Rattle.laws.specs.Listed.{indices}
-
--- ---- lists
-
-pub getD-map : {A B : Type 0} (g : A → B) (xs : List A) (k : ℕ) (a : A) (b : B) → k < length xs → getD (map g xs) k b ≡ g (getD xs k a)
-getD-map g [] k a b l = absurd (not-suc-le-zero l)
-getD-map g (x ∷ xs) zero a b l = refl
-getD-map g (x ∷ xs) (suc k) a b l = getD-map g xs k a b (le-of-suc-le-suc l)
-
-module _ (p : ℕ → Bool) (n : ℕ) where
-  pub indices-more : p n ≡ true → indices p (suc n) ≡ indices p n ++ n ∷ []
-  unfolding indices pick
-  indices-more h = rw h
-
-  pub indices-skip : p n ≡ false → indices p (suc n) ≡ indices p n
-  unfolding indices pick
-  indices-skip h = rw h (append-nil (indices p n))
-
-length-pick : (xs : List ℕ) (n : ℕ) (b : Bool) → length (xs ++ pick b (n ∷ []) []) ≡ length xs + bit b
-unfolding pick
-length-pick xs n true = length-append xs (n ∷ [])
-length-pick xs n false = length-append xs []
-
-pub length-indices : (p : ℕ → Bool) (n : ℕ) → length (indices p n) ≡ countTo p n
-unfolding indices upTo
-length-indices p zero = refl
-length-indices p (suc n) = length-pick (indices p n) n (p n) ∙ ap (λ (m : ℕ). m + bit (p n)) (length-indices p n)
-
--- ---- folds
+use Rattle.laws.specs.Lists.{indices-more, indices-skip}
 
 module _ {A : Type 0} where
   -- a fold sees only what f gives below n

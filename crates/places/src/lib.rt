@@ -1,12 +1,10 @@
 // Sixteen places at a vertex: its edges in edge order, so that a walk over a vertex's edges is a walk over its places.
-ghost use mathlib.Core.Bool.{not};
+ghost use mathlib.Core.Bool.{true};
 ghost use mathlib.Core.Path.{_≡_};
-ghost use Prim.Native.Nat.{_+_, _*_, _/_, _%_, _<_, min};
-ghost use lib.Dec.{eqb, ltb};
-ghost use lib.ListN.{getD, set};
-ghost use Rattle.laws.specs.Choice.{_and_};
+ghost use Prim.Native.Nat.{_<_, min};
 ghost use Rattle.laws.specs.Table.{table};
 ghost use Rattle.places.specs.Places.{placed};
+ghost use Rattle.places.specs.Put.{hasRoom, moreDegrees, morePlaces};
 
 // The first `ne` edges are in use. A place holds the edge in 10 bits and the far end above these.
 pub struct Places {
@@ -33,36 +31,35 @@ fn at_most_1024(n: usize) -> usize
     if n < 1024 { n } else { 1024 }
 }
 
-// The left end stands in the lowest 8 bits of an edge, the right end in the next 8.
-fn left_of(edge: u32) -> usize
-    ensures { λ r. ⌜ (r ≡ edge % 256) × (r < 256) ⌝ }
+// Whether an edge is no loop and finds a place at each end. The left end stands in its lowest 8 bits, the right end in the next 8.
+fn has_room(degrees: &[u8; 256], edge: u32) -> bool
+    ensures { λ r. ⌜ r ≡ hasRoom (now (degrees .entry)) edge ⌝ }
 {
-    (edge % 256) as usize
+    let left = (edge % 256) as usize;
+    let right = (edge / 256 % 256) as usize;
+    if left == right {
+        return false;
+    }
+    if degrees[left] >= 16 {
+        return false;
+    }
+    degrees[right] < 16
 }
 
-fn right_of(edge: u32) -> usize
-    ensures { λ r. ⌜ (r ≡ edge / 256 % 256) × (r < 256) ⌝ }
+// The edge e at the next place of each end, with the other end.
+fn put(degrees: &mut [u8; 256], places: &mut [u32; 4096], e: usize, edge: u32)
+    requires { ⌜ (e < 1_024) × (hasRoom (now degrees) edge ≡ true) ⌝ }
+    ensures { λ r. ⌜ now (degrees .exit) ≡ moreDegrees (now (degrees .entry)) edge ⌝ }
+    ensures { λ r. ⌜ now (places .exit) ≡ morePlaces (now (degrees .entry)) (now (places .entry)) e edge ⌝ }
 {
-    (edge / 256 % 256) as usize
-}
-
-// An edge with two ends, and a free place at each.
-fn fits(left: usize, right: usize, degrees: &[u8; 256]) -> bool
-    requires { ⌜ (left < 256) × (right < 256) ⌝ }
-    ensures { λ r. ⌜ r ≡ (not (eqb left right) and ltb (getD (now (degrees .entry)) left 0) 16 and ltb (getD (now (degrees .entry)) right 0) 16) ⌝ }
-{
-    left != right && degrees[left] < 16 && degrees[right] < 16
-}
-
-// The edge at the next place of `vertex`.
-fn put(degrees: &mut [u8; 256], places: &mut [u32; 4096], vertex: usize, far: usize, edge: usize)
-    requires { ⌜ (vertex < 256) × (far < 256) × (edge < 1_024) × (getD (now degrees) vertex 0 < 16) ⌝ }
-    ensures { ⌜ now (degrees .exit) ≡ set (now (degrees .entry)) vertex (getD (now (degrees .entry)) vertex 0 + 1) ⌝ }
-    ensures { ⌜ now (places .exit) ≡ set (now (places .entry)) (vertex * 16 + getD (now (degrees .entry)) vertex 0) (edge + far * 1_024) ⌝ }
-{
-    let degree = degrees[vertex];
-    places[vertex * 16 + degree as usize] = (edge + far * 1024) as u32;
-    degrees[vertex] = degree + 1;
+    let left = (edge % 256) as usize;
+    let right = (edge / 256 % 256) as usize;
+    let at_left = degrees[left] as usize;
+    let at_right = degrees[right] as usize;
+    places[left * 16 + at_left] = (e + right * 1024) as u32;
+    places[right * 16 + at_right] = (e + left * 1024) as u32;
+    degrees[left] = (at_left + 1) as u8;
+    degrees[right] = (at_right + 1) as u8;
 }
 
 // The places of the first `ne` edges, up to an edge that is a loop or some end's 17th.
@@ -74,13 +71,11 @@ pub fn place_edges(edges: &[u32; 1024], ne: usize) -> Places
     let mut places = no_places();
     let mut e: usize = 0;
     while e < n {
-        let left = left_of(edges[e]);
-        let right = right_of(edges[e]);
-        if !fits(left, right, &degrees) {
+        let edge = edges[e];
+        if !has_room(&degrees, edge) {
             break;
         }
-        put(&mut degrees, &mut places, left, right, e);
-        put(&mut degrees, &mut places, right, left, e);
+        put(&mut degrees, &mut places, e, edge);
         e += 1;
     }
     Places {
