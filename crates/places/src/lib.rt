@@ -37,13 +37,13 @@ fn has_room(degrees: &[u8; 256], edge: u32) -> bool
 {
     let left = (edge % 256) as usize;
     let right = (edge / 256 % 256) as usize;
-    if left == right {
-        return false;
-    }
     if degrees[left] >= 16 {
         return false;
     }
-    degrees[right] < 16
+    if degrees[right] >= 16 {
+        return false;
+    }
+    left != right
 }
 
 // The edge e at the next place of each end, with the other end.

@@ -10,6 +10,9 @@ cast-left c = search (needs, ways)
 cast-right : tie.Need-cast-right
 cast-right c = search (needs, ways)
 
+element-copy-out-if1 : tie.Need-element-copy-out-if1
+element-copy-out-if1 c = search (needs, ways)
+
 returns : tie.Need-returns
 returns c = search (needs, ways)
 
@@ -18,9 +21,6 @@ element-copy-out-if2 c = search (needs, ways)
 
 returns-2 : tie.Need-returns-2
 returns-2 c = search (needs, ways)
-
-element-copy-out-result : tie.Need-element-copy-out-result
-element-copy-out-result c = search (needs, ways)
 
 returns-3 : tie.Need-returns-3
 returns-3 c = search (needs, ways)
@@ -31,8 +31,8 @@ has-room-spec =
     (tie.spec
     cast-left
     cast-right
+    element-copy-out-if1
     returns
     element-copy-out-if2
     returns-2
-    element-copy-out-result
     returns-3)
