@@ -1,4 +1,5 @@
 pub mod Choice
+pub mod Tests
 pub mod Table
 pub mod Fold
 pub mod First

@@ -1,2 +1,3 @@
 pub mod Text
 pub mod Judged
+pub mod Round

@@ -1,0 +1,22 @@
+-- A peer or none: each has its case.
+use borrow.Author.Needs.{needs}
+use Rattle.rules.proofs.registers.VertexRegisters.yield_to.Statement.{statement}
+use Rattle.rules.proofs.registers.VertexRegisters.yield_to.Tie as tie
+
+enum-told : tie.Need-enum-told
+enum-told c = search needs
+
+enum-known-peer : tie.Need-enum-known-peer
+enum-known-peer c = search needs
+
+led-requires : tie.Need-led-requires
+led-requires c κs = search needs
+
+returns : tie.Need-returns
+returns c = search needs
+
+returns-2 : tie.Need-returns-2
+returns-2 c = rw (c .before .before .peer .given .1) (c .led .ensures)
+
+pub yield-to-spec : {M : Type 1} → statement M
+yield-to-spec = tie.close (tie.spec enum-told enum-known-peer led-requires returns returns-2)
