@@ -45,5 +45,3 @@ module _ (ds : List ℕ) (w : ℕ) where
 
     pub right-room : getD ds (right w) 0 < 16
     right-room = ltb-true _ _ (and-right _ _ parts)
-
-pub ruleset ways = (full-left, full-right, free)
