@@ -14,15 +14,22 @@ module _ {A : Type 0} {r : A} (b : Bool) (x y : A) where
   unfolding pick
   pick-no h e = rw h e
 
--- what is returned is the last test's outcome, or was settled before it
+-- what is returned is a test that the other one leaves open
 module _ {r : Bool} (a b : Bool) where
   pub and-on : a ≡ true → r ≡ b → r ≡ (a and b)
   unfolding _and_
   and-on h e = rw h e
 
-  pub and-off : a ≡ false → r ≡ false → r ≡ (a and b)
-  unfolding _and_
-  and-off h e = rw h e
+  pub or-on : a ≡ false → r ≡ b → r ≡ (a or b)
+  unfolding _or_
+  or-on h e = rw h e
+
+-- what is returned is a test's value
+pub yes : (b : Bool) → b ≡ true → true ≡ b
+yes b h = sym h
+
+pub no : (b : Bool) → b ≡ false → false ≡ b
+no b h = sym h
 
 -- a test's value
 pub both : (a b : Bool) → a ≡ true → b ≡ true → (a and b) ≡ true
@@ -62,4 +69,4 @@ pub flag : {f b v : Bool} → f ≡ b → f ≡ v → b ≡ v
 flag p q = sym p ∙ q
 
 pub ruleset tests =
-    (pick-yes, pick-no, and-on, and-off, both, not-first, not-second, the-first, the-second, neither, not-held, not-failed, flag, eq-eqb, ne-eqb, lt-ltb, le-ltb, le-leb, lt-leb)
+    (pick-yes, pick-no, and-on, or-on, yes, no, both, not-first, not-second, the-first, the-second, neither, not-held, not-failed, flag, eq-eqb, ne-eqb, lt-ltb, le-ltb, le-leb, lt-leb)

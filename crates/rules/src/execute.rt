@@ -45,14 +45,21 @@ impl VertexRegisters {
         self
     }
 
+    // "whose node or root is the given one"
+    fn belongs_to(self, node: NodeIndex) -> bool
+        ensures { λ r. ⌜ r ≡ (sameNode (self .node) node or sameNode (self .root) node) ⌝ }
+    {
+        if self.node.0 == node.0 {
+            return true;
+        }
+        self.root.0 == node.0
+    }
+
     // "SetBlossom: vertices whose node or root is the given one get the blossom as node and Grow; the root stays"
     fn set_blossom(self, node: NodeIndex, blossom: NodeIndex) -> VertexRegisters
         ensures { λ r. ⌜ r ≡ pick (sameNode (self .node) node or sameNode (self .root) node) (Execute.led Grow blossom (self .root) self) self ⌝ }
     {
-        if self.node.0 == node.0 {
-            return self.led(CompactGrowState::Grow, blossom, self.root);
-        }
-        if self.root.0 == node.0 {
+        if self.belongs_to(node) {
             return self.led(CompactGrowState::Grow, blossom, self.root);
         }
         self

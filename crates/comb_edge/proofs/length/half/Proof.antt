@@ -1,0 +1,27 @@
+-- Each length is halved in its case.
+use borrow.Author.Needs.{needs}
+use Rattle.comb_edge.proofs.length.half.Statement.{statement}
+use Rattle.comb_edge.proofs.length.half.Tie as tie
+
+enum-told : tie.Need-enum-told
+enum-told c = search needs
+
+enum-known-length : tie.Need-enum-known-length
+enum-known-length c = search needs
+
+enum-known-length-2 : tie.Need-enum-known-length-2
+enum-known-length-2 c = search needs
+
+returns : tie.Need-returns
+returns c = search needs
+
+returns-2 : tie.Need-returns-2
+returns-2 c = cc
+
+returns-3 : tie.Need-returns-3
+returns-3 c = cc
+
+pub half-spec : {M : Type 1} → statement M
+half-spec =
+    tie.close
+    (tie.spec enum-told enum-known-length enum-known-length-2 returns returns-2 returns-3)

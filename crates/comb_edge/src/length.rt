@@ -1,0 +1,68 @@
+// Lengths, and the joint speed that divides them.
+use rules::finding::Length;
+use rules::instruction::CompactGrowState;
+ghost use mathlib.Core.Path.{_≡_};
+ghost use Rattle.rules.specs.Respond as Respond;
+
+// a less b
+pub fn less(a: u32, b: u32) -> Length
+    ensures { λ r. ⌜ r ≡ Respond.less a b ⌝ }
+{
+    if b <= a {
+        return Length::Ahead(a - b);
+    }
+    Length::Behind(b - a)
+}
+
+pub fn is_zero(length: Length) -> bool
+    ensures { λ r. ⌜ r ≡ Respond.isZero length ⌝ }
+{
+    match length {
+        Length::NoLimit => false,
+        Length::Ahead(n) => n == 0,
+        Length::Behind(n) => n == 0,
+    }
+}
+
+pub fn is_odd(length: Length) -> bool
+    ensures { λ r. ⌜ r ≡ Respond.isOdd length ⌝ }
+{
+    match length {
+        Length::NoLimit => false,
+        Length::Ahead(n) => n % 2 == 1,
+        Length::Behind(n) => n % 2 == 1,
+    }
+}
+
+pub fn half(length: Length) -> Length
+    ensures { λ r. ⌜ r ≡ Respond.half length ⌝ }
+{
+    match length {
+        Length::NoLimit => Length::NoLimit,
+        Length::Ahead(n) => Length::Ahead(n / 2),
+        Length::Behind(n) => Length::Behind(n / 2),
+    }
+}
+
+// The joint speed of two ends where it is positive, else 0.
+pub fn joint(left: CompactGrowState, right: CompactGrowState) -> u32
+    ensures { λ r. ⌜ r ≡ Respond.joint left right ⌝ }
+{
+    match left {
+        CompactGrowState::Stay => match right {
+            CompactGrowState::Stay => 0,
+            CompactGrowState::Grow => 1,
+            CompactGrowState::Shrink => 0,
+        },
+        CompactGrowState::Grow => match right {
+            CompactGrowState::Stay => 1,
+            CompactGrowState::Grow => 2,
+            CompactGrowState::Shrink => 0,
+        },
+        CompactGrowState::Shrink => match right {
+            CompactGrowState::Stay => 0,
+            CompactGrowState::Grow => 0,
+            CompactGrowState::Shrink => 0,
+        },
+    }
+}

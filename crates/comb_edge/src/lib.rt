@@ -1,0 +1,143 @@
+// Stages 1 and 7 of one edge, from its entry in the graph, its fetch weight and the vertices' registers, and the table of fetch weights.
+use rules::finding::Length;
+use rules::finding::Response;
+use rules::index::VertexIndex;
+use rules::registers::VertexRegisters;
+use rules::registers::view;
+
+pub mod length;
+pub mod respond;
+
+ghost use mathlib.Core.Path.{_≡_};
+ghost use Prim.Native.Nat.{_+_, _/_, _%_, _<_, min};
+ghost use Rattle.laws.specs.Table.{paint};
+ghost use Rattle.rules.specs.Fetch.{fetchWeight};
+ghost use Rattle.rules.specs.Registers as Registers;
+ghost use Rattle.comb_edge.specs.Edge.{farEndBy, reducedBy, weightBy, grownBy, tightBy, countedTightBy, remainingBy, responseBy};
+
+pub fn left(edge: u32) -> VertexIndex
+    ensures { λ r. ⌜ r .0 ≡ edge % 256 ⌝ }
+{
+    VertexIndex((edge % 256) as u16)
+}
+
+pub fn right(edge: u32) -> VertexIndex
+    ensures { λ r. ⌜ r .0 ≡ edge / 256 % 256 ⌝ }
+{
+    VertexIndex((edge / 256 % 256) as u16)
+}
+
+// The conditioned vertex, over 255 for none.
+pub fn condition(edge: u32) -> VertexIndex
+    ensures { λ r. ⌜ r .0 ≡ edge / 65_536 ⌝ }
+{
+    VertexIndex((edge / 65_536) as u16)
+}
+
+// The end that is not the vertex.
+pub fn far_end(edge: u32, vertex: VertexIndex) -> VertexIndex
+    ensures { λ r. ⌜ (r .0 ≡ farEndBy edge (vertex .0)) × (r .0 < 256) ⌝ }
+{
+    let near = left(edge);
+    if near.0 == vertex.0 {
+        return right(edge);
+    }
+    near
+}
+
+fn at(registers: &[u64; 256], vertex: VertexIndex) -> VertexRegisters
+    requires { ⌜ vertex .0 < 256 ⌝ }
+    ensures { λ r. ⌜ (r ≡ Registers.at (now (registers .entry)) (vertex .0)) × (r .grown < 67_108_864) ⌝ }
+{
+    view(registers[vertex.0 as usize])
+}
+
+// "its conditioned vertex is virtual"
+pub fn is_reduced(edge: u32, registers: &[u64; 256]) -> bool
+    ensures { λ r. ⌜ r ≡ reducedBy edge (now (registers .entry)) ⌝ }
+{
+    let conditioned = condition(edge);
+    if conditioned.0 < 256 {
+        return at(registers, conditioned).is_virtual;
+    }
+    false
+}
+
+// "the edge's weight, or weight / 4 * 2 (whole division) while its conditioned vertex is virtual"
+pub fn post_fetch_weight(edge: u32, weight: u32, registers: &[u64; 256]) -> u32
+    ensures { λ r. ⌜ r ≡ weightBy edge (now (registers .entry)) weight ⌝ }
+{
+    if is_reduced(edge, registers) {
+        return weight / 4 * 2;
+    }
+    weight
+}
+
+fn grown(edge: u32, registers: &[u64; 256]) -> u32
+    ensures { λ r. ⌜ r ≡ grownBy edge (now (registers .entry)) ⌝ }
+{
+    at(registers, left(edge)).grown + at(registers, right(edge)).grown
+}
+
+// "the two grown amounts add to at least it"
+pub fn post_fetch_is_tight(edge: u32, fetched: u32, registers: &[u64; 256]) -> bool
+    ensures { λ r. ⌜ r ≡ tightBy edge (now (registers .entry)) fetched ⌝ }
+{
+    fetched <= grown(edge, registers)
+}
+
+// "tight, and no condition on a virtual vertex"
+pub fn post_fetch_count_tight(edge: u32, fetched: u32, registers: &[u64; 256]) -> bool
+    ensures { λ r. ⌜ r ≡ countedTightBy edge (now (registers .entry)) fetched ⌝ }
+{
+    if is_reduced(edge, registers) {
+        return false;
+    }
+    post_fetch_is_tight(edge, fetched, registers)
+}
+
+// "remaining = fetch weight less new grown amounts"
+pub fn remaining(edge: u32, fetched: u32, registers: &[u64; 256]) -> Length
+    ensures { λ r. ⌜ r ≡ remainingBy edge (now (registers .entry)) fetched ⌝ }
+{
+    length::less(fetched, grown(edge, registers))
+}
+
+// What the edge reports of the registers after stage 5 and the shadows.
+pub fn response(edge: u32, fetched: u32, registers: &[u64; 256], shadows: &[u64; 256]) -> Response
+    ensures { λ r. ⌜ r ≡ responseBy edge (now (registers .entry)) (now (shadows .entry)) fetched ⌝ }
+{
+    let v = left(edge);
+    let w = right(edge);
+    respond::respond(
+        at(shadows, v),
+        at(shadows, w),
+        v,
+        w,
+        remaining(edge, fetched, registers),
+    )
+}
+
+fn at_most_1024(n: usize) -> usize
+    ensures { λ r. ⌜ r ≡ min n 1_024 ⌝ }
+{
+    if n < 1_024 { n } else { 1_024 }
+}
+
+// The fetch weights of the first ne edges, into a lent table.
+pub fn fetch(
+    edges: &[u32; 1024],
+    weights: &[u32; 1024],
+    registers: &[u64; 256],
+    ne: usize,
+    out: &mut [u32; 1024],
+)
+    ensures { λ r. ⌜ now (out .exit) ≡ paint (min ne 1_024) (fetchWeight (now (edges .entry)) (now (registers .entry)) (now (weights .entry))) (now (out .entry)) ⌝ }
+{
+    let n = at_most_1024(ne);
+    let mut e = 0;
+    while e < n {
+        out[e] = post_fetch_weight(edges[e], weights[e], registers);
+        e += 1;
+    }
+}
