@@ -30,11 +30,17 @@ fn layer_of(vertices: &[u32; 256], v: u8) -> LayerId
     LayerId((vertices[v as usize] % 65_536) as u16)
 }
 
+fn has_layer(vertices: &[u32; 256], v: u8) -> bool
+    ensures { λ r. ⌜ r ≡ Graph.hasLayer (now (vertices .entry)) v ⌝ }
+{
+    vertices[v as usize] % 65_536 < 32_768
+}
+
 // "virtual with a layer"
 pub fn waits(vertices: &[u32; 256], v: u8, registers: VertexRegisters) -> bool
     ensures { λ r. ⌜ r ≡ Execute.waits (now (vertices .entry)) v registers ⌝ }
 {
-    if layer_of(vertices, v).0 < 32_768 {
+    if has_layer(vertices, v) {
         return registers.is_virtual;
     }
     false

@@ -16,7 +16,7 @@ waits-requires : tie.Need-waits-requires
 waits-requires c κs = search needs
 
 returns-2 : tie.Need-returns-2
-returns-2 c = search (needs, tests)
+returns-2 c = rw (← c .before .at .ensures) (search (needs, tests))
 
 pub is-still-spec : {M : Type 1} → statement M
 is-still-spec =

@@ -1,20 +1,19 @@
 use Rattle.laws.specs.Tests.{tests}
-use Rattle.rules.specs.Graph.{hasLayer}
 use Rattle.rules.specs.Execute.{waits}
 use borrow.Author.Needs.{needs}
 use Rattle.comb_vertex.proofs.execute.waits.Statement.{statement}
 use Rattle.comb_vertex.proofs.execute.waits.Tie as tie
 
-layer-of-requires : tie.Need-layer-of-requires
-layer-of-requires c κs = search needs
+has-layer-requires : tie.Need-has-layer-requires
+has-layer-requires c κs = search needs
 
 returns : tie.Need-returns
-unfolding waits hasLayer
+unfolding waits
 returns c = search (needs, tests)
 
 returns-2 : tie.Need-returns-2
-unfolding waits hasLayer
+unfolding waits
 returns-2 c = search (needs, tests)
 
 pub waits-spec : {M : Type 1} → statement M
-waits-spec = tie.close (tie.spec layer-of-requires returns returns-2)
+waits-spec = tie.close (tie.spec has-layer-requires returns returns-2)
