@@ -7,12 +7,19 @@ use Rattle.laws.specs.Listed.{indices}
 use Rattle.rules.specs.Graph.{touches, farEnd, edgesInUse}
 use Rattle.places.specs.declared.Places.{Places}
 
+-- what a place's word says: the edge, and its far end
+abbrev pub edgeIn : ℕ → ℕ
+edgeIn w = w % 1_024
+
+abbrev pub farIn : ℕ → ℕ
+farIn w = w / 1_024 % 256
+
 module _ (es : List ℕ) where
   -- the edges below n that are v's, in order
   unfoldable pub touching : ℕ → ℕ → List ℕ
   touching n v = indices (touches es v) n
 
-  -- what a place of v holds: the edge in 10 bits, then its far end
+  -- edge e at a place of v: the edge in 10 bits, then the far end
   unfoldable pub placeWord : ℕ → ℕ → ℕ
   placeWord v e = e + farEnd es v e * 1_024
 

@@ -9,19 +9,23 @@ use native.Mathlib.Omega.{arith}
 use lib.Dec.{eqb}
 use lib.ListN.{length, getD}
 use borrow.Author.Tests.{eqb-true, ltb-true}
-use Rattle.laws.specs.Choice.{_and_, _or_, pick, and-left, and-right}
+use Rattle.laws.specs.Choice.{_and_, _or_, pick, by-test, and-left, and-right}
 use Rattle.laws.specs.Fold.{upTo, bit, countTo}
 use Rattle.laws.specs.First.{first, orElse}
-use Rattle.laws.specs.Leading.{leading-each}
+use Rattle.laws.specs.Leading.{leading-le, leading-each}
 use Rattle.laws.specs.Table.{getD-table}
 use Rattle.laws.specs.Lists.{getD-map, length-indices}
 use Rattle.laws.specs.Walk.{upTo-same, walk-indices, count-picked, first-fold, first-picked}
 use Rattle.rules.specs.Graph.{leftOf, rightOf, touches, farEnd, degree, fits, edgesInUse}
-use Rattle.places.specs.Places.{touching, placeWord, placeAt, placesOf, degreesOf}
+use Rattle.places.specs.Places.{edgeIn, farIn, touching, placeWord, placeAt, placesOf, degreesOf}
 
 -- ---- what a place says
 
 module _ (es : List ℕ) (v e : ℕ) where
+  far-small : farEnd es v e < 256
+  unfolding farEnd leftOf rightOf
+  far-small = by-test (λ (w : ℕ). w < 256) (eqb (leftOf es e) v) (λ t. omega arith) (λ t. omega arith)
+
   pub place-edge : e < 1_024 → placeWord es v e % 1_024 ≡ e
   unfolding placeWord
   place-edge l = omega arith
@@ -29,6 +33,9 @@ module _ (es : List ℕ) (v e : ℕ) where
   pub place-far : e < 1_024 → placeWord es v e / 1_024 ≡ farEnd es v e
   unfolding placeWord
   place-far l = omega arith
+
+  place-far-in : e < 1_024 → farIn (placeWord es v e) ≡ farEnd es v e
+  place-far-in l = rw (place-far l) (omega (arith, far-small))
 
 -- ---- how many edges v has
 
@@ -100,3 +107,28 @@ module _ (es ps ds : List ℕ) (n m v : ℕ) (used : n ≡ edgesInUse es m) (p :
       → first (getD ds v 0) (λ k. h (getD ps (v * 16 + k) 0)) ≡ first n (λ e. pick (touches es v e) (h (placeWord es v e)) none)
   first-places h =
       first-fold (getD ds v 0) (λ k. h (getD ps (v * 16 + k) 0)) ∙ walk-places (λ w c. orElse c (h w)) none ∙ first-picked (touches es v) (λ e. h (placeWord es v e)) n
+
+  -- ---- the same, with each place read as its edge and its far end
+
+  module _ (most : m ≤ 1_024) where
+    edge-small : (e : ℕ) → e < n → e < 1_024
+    unfolding edgesInUse
+    edge-small e l = omega (arith, leading-le (fits es) m)
+
+    pub walk-edges : {A : Type 0} (f : ℕ → ℕ → A → A) (a : A)
+        → upTo (λ k c. f (edgeIn (getD ps (v * 16 + k) 0)) (farIn (getD ps (v * 16 + k) 0)) c) a (getD ds v 0)
+        ≡ upTo (λ e c. pick (touches es v e) (f e (farEnd es v e) c) c) a n
+    walk-edges f a =
+        walk-places (λ w c. f (edgeIn w) (farIn w) c) a
+        ∙ upTo-same (λ e c. pick (touches es v e) (f (edgeIn (placeWord es v e)) (farIn (placeWord es v e)) c) c) (λ e c. pick (touches es v e) (f e (farEnd es v e) c) c) a n
+        (λ e c l. rw (place-edge es v e (edge-small e l), place-far-in es v e (edge-small e l)))
+
+    pub count-edges : (q : ℕ → ℕ → Bool)
+        → countTo (λ k. q (edgeIn (getD ps (v * 16 + k) 0)) (farIn (getD ps (v * 16 + k) 0))) (getD ds v 0) ≡ countTo (λ e. touches es v e and q e (farEnd es v e)) n
+    count-edges q = walk-edges (λ e w c. c + bit (q e w)) 0 ∙ count-picked (touches es v) (λ e. q e (farEnd es v e)) n
+
+    pub first-edges : {B : Type 0} (h : ℕ → ℕ → Option B)
+        → first (getD ds v 0) (λ k. h (edgeIn (getD ps (v * 16 + k) 0)) (farIn (getD ps (v * 16 + k) 0))) ≡ first n (λ e. pick (touches es v e) (h e (farEnd es v e)) none)
+    first-edges h =
+        first-fold (getD ds v 0) (λ k. h (edgeIn (getD ps (v * 16 + k) 0)) (farIn (getD ps (v * 16 + k) 0)))
+        ∙ walk-edges (λ e w c. orElse c (h e w)) none ∙ first-picked (touches es v) (λ e. h e (farEnd es v e)) n
