@@ -1,0 +1,3 @@
+pub mod Unit
+pub mod Around
+pub mod Offload
