@@ -10,16 +10,19 @@ use lib.Dec.{eqb}
 use lib.ListN.{getD, set}
 use borrow.Author.Tests.{eq-eqb, ne-eqb, not-true, not-false}
 use Rattle.laws.specs.Choice.{_and_, _or_, pick}
-use Rattle.laws.specs.Fold.{upTo, allTo}
-use Rattle.rules.specs.Graph.{unitOf}
+use Rattle.laws.specs.Tests.{not-first, not-second}
+use Rattle.laws.specs.Fold.{upTo, countTo, allTo}
+use Rattle.rules.specs.Graph.{leftOf, rightOf, unitOf}
 use Rattle.rules.specs.Registers.{at, growing}
 use Rattle.rules.specs.Fetch.{tight, tightCount}
-use Rattle.rules.specs.Units.{raise, isOther, permits, stallsAround}
+use Rattle.rules.specs.Units.{raise, edgeOf, eager, defectMatch, stallsAround, holds, stalls}
 use Rattle.rules.specs.declared.graph.OffloadingType.{OffloadingType}
 use Rattle.rules.specs.declared.registers.VertexRegisters.{VertexRegisters}
 use Rattle.places.specs.Places.{edgeIn, farIn}
 use Rattle.places.specs.Wired.{Wired}
-use Rattle.comb_offloading.specs.Around.{tightOther, permitsBy, stallsBy, allPermit, stallsAlong, all-permit, stalls-along}
+use Rattle.comb_vertex.specs.Walked.{degreeOf}
+use Rattle.comb_vertex.specs.Tight.{tightAt, tight-count}
+use Rattle.comb_offloading.specs.Around.{tightOther, permitsBy, stallsBy, othersPermit, allPermit, stallsAlong, all-permit, stalls-along}
 use Rattle.comb_offloading.specs.Offload.{vertexTurn, edgeTurn, vertexTurns, edgeTurns}
 
 -- ---- a growing defect
@@ -34,6 +37,22 @@ module _ (rs : List ℕ) (v : ℕ) {x : VertexRegisters} where
   eager-no p h = rw (← p, h)
 
 pub ruleset eagers = (eager-yes, eager-no)
+
+-- ---- a tight count
+
+pub count-is : (es rs fs ps ds : List ℕ) (ne v n : ℕ) {r : ℕ} → r ≡ countTo (tightAt es rs fs ps v) (degreeOf ds v) → Wired es ne ps ds → v < 256
+    → eqb r n ≡ eqb (tightCount es rs fs ne v) n
+count-is es rs fs ps ds ne v n p w u = rw (p, tight-count es ps ds ne (w .limit) v (w .used) (w .listed) (w .counted) u (w .small) rs fs)
+
+-- ---- both ends, l and r
+
+pub by-ends : (es rs fs : List ℕ) (ne e : ℕ) {l r : ℕ} {b : Bool} → l ≡ leftOf es e → r ≡ rightOf es e
+    → b
+    ≡ (at rs l .«is_defect» and growing (at rs l .speed) and (at rs r .«is_defect» and growing (at rs r .speed)) and tight es rs fs e
+    and eqb (tightCount es rs fs ne l) 1 and eqb (tightCount es rs fs ne r) 1)
+    → b ≡ defectMatch es rs fs ne e
+unfolding defectMatch eager
+by-ends es rs fs ne e p q h = rw (← p, ← q) h
 
 -- ---- one place: it holds the edge j, which is k
 
@@ -74,19 +93,15 @@ module _ (es rs fs : List ℕ) (e k x : ℕ) (flags : List Bool) {b : Bool} (t :
   stalls-far h far p = rw (← t, not-false b h, ← far) p
 
 pub ruleset stall = (stalls-none, stalls-far)
+
 pub ruleset permit = (permits-free, permits-defect, permits-count)
 
 -- ---- all places
 
-and-false : (b : Bool) → (b and false) ≡ false
-unfolding _and_
-and-false true = refl
-and-false false = refl
-
 -- one that fails settles it
 all-stop : (p : ℕ → Bool) (i n : ℕ) → i < n → p i ≡ false → allTo p n ≡ false
-unfolding upTo _and_
-all-stop p i n l q = le-ind (λ (m : ℕ). allTo p m ≡ false) (rw q (and-false _)) (λ m k e. rw e) n l
+unfolding upTo
+all-stop p i n l q = le-ind (λ (m : ℕ). allTo p m ≡ false) (not-second (allTo p i) (p i) q) (λ m k e. not-first (allTo p m) (p m) e) n l
 
 module _ (es rs fs : List ℕ) (e ne : ℕ) (ps : List ℕ) (v : ℕ) where
   pub permit-none : allPermit es rs fs e ps v ne 0 ≡ true
@@ -103,11 +118,11 @@ module _ (es rs fs : List ℕ) (e ne : ℕ) (ps : List ℕ) (v : ℕ) where
     stopped n h l = all-stop (λ j. permitsBy es rs fs e ne (edgeIn (getD ps (v * 16 + j) 0)) (farIn (getD ps (v * 16 + j) 0))) k n l (sym t ∙ not-true b h)
 
     pub permit-stop : {ds : List ℕ} → not b ≡ true → k < getD ds v 0 → Wired es ne ps ds → v < 256
-        → false ≡ allTo (λ j. not (isOther es rs fs ne e v j) or permits es rs fs ne v j) ne
+        → false ≡ othersPermit es rs fs ne e v
     permit-stop {ds} h l w u = sym (stopped (getD ds v 0) h l) ∙ all-permit es rs fs e w v u
 
   pub permit-done : (k : ℕ) {ds : List ℕ} → allPermit es rs fs e ps v ne k ≡ true → k ≤ getD ds v 0 → getD ds v 0 ≤ k → Wired es ne ps ds → v < 256
-      → true ≡ allTo (λ j. not (isOther es rs fs ne e v j) or permits es rs fs ne v j) ne
+      → true ≡ othersPermit es rs fs ne e v
   permit-done k {ds} a i j w u = let z : k ≡ getD ds v 0 = omega arith in sym a ∙ rw z (all-permit es rs fs e w v u)
 
 pub ruleset walk = (permit-none, permit-pass, permit-stop, permit-done)
@@ -128,6 +143,29 @@ module _ (es rs fs : List ℕ) (e : ℕ) (ps : List ℕ) (v : ℕ) (flags : List
   along-done k ne start {ds} p q i j w u = let z : k ≡ getD ds v 0 = omega arith in p ∙ rw (z, stalls-along es rs fs e w v u flags, q)
 
 pub ruleset along = (along-none, along-step, along-done)
+
+-- ---- one unit: b is whether it holds
+
+module _ (es rs fs : List ℕ) (ne : ℕ) (u : OffloadingType) (flags : List Bool) {b : Bool} (t : b ≡ holds es rs fs ne u) where
+  module _ (h : not b ≡ true) where
+    pub idle-vertices : flags ≡ vertexTurn es rs fs ne u flags
+    unfolding vertexTurn pick
+    idle-vertices = rw (← t, not-true b h)
+
+    pub idle-edges : flags ≡ edgeTurn es rs fs ne u flags
+    unfolding edgeTurn pick
+    idle-edges = rw (← t, not-true b h)
+
+  module _ (h : not b ≡ false) where
+    pub held-vertices : {s : List Bool} → s ≡ stalls es rs fs ne u flags → s ≡ vertexTurn es rs fs ne u flags
+    unfolding vertexTurn pick
+    held-vertices p = rw (← t, not-false b h) p
+
+    pub held-edges : {e : ℕ} → e ≡ edgeOf u → set flags e true ≡ edgeTurn es rs fs ne u flags
+    unfolding edgeTurn pick
+    held-edges p = rw (← t, not-false b h, p)
+
+pub ruleset turn = (idle-vertices, idle-edges, held-vertices, held-edges)
 
 -- ---- all units
 

@@ -43,7 +43,12 @@ module _ (es rs fs : List ℕ) (e : ℕ) where
     unfoldable pub stallsAlong : List Bool → ℕ → List Bool
     stallsAlong flags n = upTo (λ j t. stallsBy (edgeIn (place j)) (farIn (place j)) t) flags n
 
--- ---- over all places of v
+-- ---- over all edges: "each other edge of that end untight or leading to a non-defect with tight count 1"
+
+unfoldable pub othersPermit : List ℕ → List ℕ → List ℕ → ℕ → ℕ → ℕ → Bool
+othersPermit es rs fs ne e v = allTo (λ k. not (isOther es rs fs ne e v k) or permits es rs fs ne v k) ne
+
+-- ---- the tie
 
 permits-turn : (touch same tight rest c : Bool)
     → pick touch (c and (not (not same and tight) or rest)) c ≡ (c and (not (touch and not same) or (not tight or rest)))
@@ -59,8 +64,8 @@ stalls-turn true same tight x y = refl
 stalls-turn false same tight x y = refl
 
 module _ (es rs fs : List ℕ) (e : ℕ) {ps ds : List ℕ} {ne : ℕ} (w : Wired es ne ps ds) (v : ℕ) (u : v < 256) where
-  pub all-permit : allPermit es rs fs e ps v ne (getD ds v 0) ≡ allTo (λ k. not (isOther es rs fs ne e v k) or permits es rs fs ne v k) ne
-  unfolding allPermit permitsBy tightOther isOther permits
+  pub all-permit : allPermit es rs fs e ps v ne (getD ds v 0) ≡ othersPermit es rs fs ne e v
+  unfolding othersPermit allPermit permitsBy tightOther isOther permits
   all-permit =
       walk-wired w v u (λ k x c. c and permitsBy es rs fs e ne k x) true
       ∙ upTo-same (λ k c. pick (touches es v k) (c and permitsBy es rs fs e ne k (farEnd es v k)) c)

@@ -4,7 +4,6 @@ use crate::vertex::is_eager;
 use crate::vertex::is_virtual;
 use rules::index::EdgeIndex;
 use rules::index::VertexIndex;
-
 ghost use mathlib.Core.Path.{_≡_};
 ghost use Prim.Native.Nat.{_<_};
 ghost use Rattle.laws.specs.Choice.{_and_};

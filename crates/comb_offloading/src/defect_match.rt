@@ -6,7 +6,6 @@ use crate::vertex::is_eager;
 use crate::vertex::is_unique_tight;
 use crate::vertex::raise;
 use rules::index::EdgeIndex;
-
 ghost use mathlib.Core.Path.{_≡_};
 ghost use Prim.Native.Nat.{_<_};
 ghost use Rattle.rules.specs.Graph.{leftOf, rightOf};

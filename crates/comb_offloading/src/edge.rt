@@ -5,7 +5,6 @@ use comb_edge::post_fetch_is_tight;
 use comb_edge::right;
 use rules::index::EdgeIndex;
 use rules::index::VertexIndex;
-
 ghost use mathlib.Core.Path.{_≡_};
 ghost use Prim.Native.Nat.{_<_};
 ghost use Rattle.rules.specs.Fetch.{tight};

@@ -3,7 +3,6 @@ use crate::boundary::meets_virtual;
 use crate::vertex::is_isolated;
 use rules::index::EdgeIndex;
 use rules::index::VertexIndex;
-
 ghost use mathlib.Core.Path.{_≡_};
 ghost use Prim.Native.Nat.{_<_};
 ghost use Rattle.rules.specs.Units as Units;

@@ -3,7 +3,6 @@ mod boundary;
 mod defect_match;
 mod edge;
 mod fusion_match;
-mod temp;
 mod unit;
 mod vertex;
 mod virtual_match;
@@ -18,7 +17,6 @@ use crate::vertex::raise;
 use crate::virtual_match::stall_around;
 use crate::virtual_match::virtual_match;
 use rules::graph::OffloadingType;
-
 ghost use mathlib.Core.Path.{_≡_};
 ghost use Prim.Native.Nat.{min};
 ghost use Rattle.rules.specs.Units as Units;
@@ -125,7 +123,16 @@ fn offload_unit<'a>(
     if !holds(unit, edges, fetched, registers, places, degrees, ne) {
         return;
     }
-    stall(unit, edges, fetched, registers, places, degrees, ne, vertices);
+    stall(
+        unit,
+        edges,
+        fetched,
+        registers,
+        places,
+        degrees,
+        ne,
+        vertices,
+    );
     // "Each holding unit stalls its edge"
     stalled[edge_of(unit).0 as usize] = true;
 }

@@ -2,7 +2,6 @@
 use rules::graph::OffloadingType;
 use rules::index::EdgeIndex;
 use rules::index::VertexIndex;
-
 ghost use mathlib.Core.Path.{_≡_};
 ghost use Rattle.rules.specs.Graph.{unitOf};
 ghost use Rattle.rules.specs.Units.{edgeOf};

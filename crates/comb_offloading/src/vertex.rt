@@ -1,9 +1,8 @@
 // One vertex of the tables, by its number.
-use crate::temp::tight_count;
+use comb_vertex::tight::tight_count;
 use rules::index::VertexIndex;
 use rules::registers::VertexRegisters;
 use rules::registers::view;
-
 ghost use mathlib.Core.Path.{_≡_};
 ghost use Prim.Native.Nat.{_<_};
 ghost use lib.Dec.{eqb};

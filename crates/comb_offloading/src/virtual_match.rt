@@ -7,16 +7,12 @@ use crate::vertex::is_unique_tight;
 use crate::vertex::raise;
 use rules::index::EdgeIndex;
 use rules::index::VertexIndex;
-
 ghost use mathlib.Core.Path.{_≡_};
-ghost use mathlib.Core.Bool.{not};
 ghost use Prim.Native.Nat.{_<_};
-ghost use Rattle.laws.specs.Choice.{_or_};
-ghost use Rattle.laws.specs.Fold.{allTo};
 ghost use Rattle.rules.specs.Units as Units;
 ghost use Rattle.places.specs.Places.{edgeIn, farIn};
 ghost use Rattle.places.specs.Wired.{Wired};
-ghost use Rattle.comb_offloading.specs.Around.{tightOther, permitsBy, stallsBy};
+ghost use Rattle.comb_offloading.specs.Around.{tightOther, permitsBy, stallsBy, othersPermit};
 
 fn edge_at(place: u32) -> EdgeIndex
     ensures { λ r. ⌜ r .0 ≡ edgeIn place ⌝ }
@@ -81,13 +77,22 @@ fn all_permit<'a>(
     ne: usize,
 ) -> bool
     requires { ⌜ (regular .0 < 256) × Wired (now edges) ne (now places) (now degrees) ⌝ }
-    ensures { λ r. ⌜ r ≡ allTo (λ k. not (Units.isOther (now (edges .entry)) (now (registers .entry)) (now (fetched .entry)) ne (edge .0) (regular .0) k) or Units.permits (now (edges .entry)) (now (registers .entry)) (now (fetched .entry)) ne (regular .0) k) ne ⌝ }
+    ensures { λ r. ⌜ r ≡ othersPermit (now (edges .entry)) (now (registers .entry)) (now (fetched .entry)) ne (edge .0) (regular .0) ⌝ }
 {
     let v = regular.0 as usize;
-    let n = degrees[v] as usize;
-    let mut k = 0;
+    let n = degrees[v];
+    let mut k: u8 = 0;
     while k < n {
-        if !permits(places[v * 16 + k], edge, edges, fetched, registers, places, degrees, ne) {
+        if !permits(
+            places[v * 16 + k as usize],
+            edge,
+            edges,
+            fetched,
+            registers,
+            places,
+            degrees,
+            ne,
+        ) {
             return false;
         }
         k += 1;
@@ -113,7 +118,16 @@ pub fn virtual_match<'a>(
     if !meets_virtual(edge, vertex, regular, edges, fetched, registers) {
         return false;
     }
-    all_permit(edge, regular, edges, fetched, registers, places, degrees, ne)
+    all_permit(
+        edge,
+        regular,
+        edges,
+        fetched,
+        registers,
+        places,
+        degrees,
+        ne,
+    )
 }
 
 fn stall_far<'a>(
@@ -148,10 +162,17 @@ pub fn stall_around<'a>(
 {
     raise(regular, vertices);
     let v = regular.0 as usize;
-    let n = degrees[v] as usize;
-    let mut k = 0;
+    let n = degrees[v];
+    let mut k: u8 = 0;
     while k < n {
-        stall_far(places[v * 16 + k], edge, edges, fetched, registers, vertices);
+        stall_far(
+            places[v * 16 + k as usize],
+            edge,
+            edges,
+            fetched,
+            registers,
+            vertices,
+        );
         k += 1;
     }
 }

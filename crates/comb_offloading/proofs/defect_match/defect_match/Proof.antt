@@ -1,7 +1,6 @@
 -- Each test that fails settles it, as in the definition.
-use Rattle.laws.specs.Tests.{tests}
-use Rattle.comb_offloading.proofs.Turned.{turned}
-use Rattle.rules.specs.Units.{eager, defectMatch}
+use Rattle.comb_offloading.proofs.Turned.{row}
+use Rattle.comb_offloading.proofs.Turns.{by-ends}
 use borrow.Author.Needs.{needs}
 use Rattle.comb_offloading.proofs.defect_match.defect_match.Statement.{statement}
 use Rattle.comb_offloading.proofs.defect_match.defect_match.Tie as tie
@@ -16,36 +15,31 @@ is-eager-requires : tie.Need-is-eager-requires
 is-eager-requires c κs = search needs
 
 returns : tie.Need-returns
-unfolding defectMatch eager
-returns c = search (needs, tests, turned)
+returns c = search (needs, row, by-ends)
 
 is-eager-requires-2 : tie.Need-is-eager-requires-2
 is-eager-requires-2 c κs = search needs
 
 returns-2 : tie.Need-returns-2
-unfolding defectMatch eager
-returns-2 c = search (needs, tests, turned)
+returns-2 c = search (needs, row, by-ends)
 
 is-tight-requires : tie.Need-is-tight-requires
 is-tight-requires c κs = search needs
 
 returns-3 : tie.Need-returns-3
-unfolding defectMatch eager
-returns-3 c = search (needs, tests, turned)
+returns-3 c = search (needs, row, by-ends)
 
 is-unique-tight-requires : tie.Need-is-unique-tight-requires
 is-unique-tight-requires c κs = search needs
 
 returns-4 : tie.Need-returns-4
-unfolding defectMatch eager
-returns-4 c = search (needs, tests, turned)
+returns-4 c = search (needs, row, by-ends)
 
 is-unique-tight-requires-2 : tie.Need-is-unique-tight-requires-2
 is-unique-tight-requires-2 c κs = search needs
 
 returns-5 : tie.Need-returns-5
-unfolding defectMatch eager
-returns-5 c = search (needs, tests, turned)
+returns-5 c = search (needs, row, by-ends)
 
 pub defect-match-spec : {M : Type 1} → statement M
 defect-match-spec =

@@ -1,6 +1,5 @@
 -- Each test that fails settles it, as in the definition.
-use Rattle.laws.specs.Tests.{tests}
-use Rattle.comb_offloading.proofs.Turned.{turned}
+use Rattle.comb_offloading.proofs.Turned.{row}
 use Rattle.rules.specs.Units.{eager, fusionMatch}
 use borrow.Author.Needs.{needs}
 use Rattle.comb_offloading.proofs.fusion_match.fusion_match.Statement.{statement}
@@ -11,14 +10,14 @@ meets-virtual-requires c κs = search needs
 
 returns : tie.Need-returns
 unfolding fusionMatch eager
-returns c = search (needs, tests, turned)
+returns c = search (needs, row)
 
 is-isolated-requires : tie.Need-is-isolated-requires
 is-isolated-requires c κs = search needs
 
 returns-2 : tie.Need-returns-2
 unfolding fusionMatch eager
-returns-2 c = search (needs, tests, turned)
+returns-2 c = search (needs, row)
 
 pub fusion-match-spec : {M : Type 1} → statement M
 fusion-match-spec =

@@ -1,21 +1,17 @@
+-- The count over the vertex's places is the definition's.
+use Rattle.comb_offloading.proofs.Turns.{count-is}
 use borrow.Author.Needs.{needs}
 use Rattle.comb_offloading.proofs.vertex.is_isolated.Statement.{statement}
 use Rattle.comb_offloading.proofs.vertex.is_isolated.Tie as tie
-use Rattle.comb_offloading.proofs.vertex.is_isolated.Reads as reads
-use Rattle.comb_offloading.proofs.vertex.is_isolated.Lts as lts
-use Rattle.comb_offloading.proofs.temp.tight_count.Reads as tight-count-reads
 
--- src/vertex.rt:79:17
 cast-tight-count : tie.Need-cast-tight-count
 cast-tight-count c = search needs
 
--- src/vertex.rt:79:5
 tight-count-requires : tie.Need-tight-count-requires
 tight-count-requires c κs = search needs
 
--- src/vertex.rt:67:1
 returns : tie.Need-returns
-returns c = ?
+returns c = search (needs, count-is)
 
 pub is-isolated-spec : {M : Type 1} → statement M
 is-isolated-spec = tie.close (tie.spec cast-tight-count tight-count-requires returns)

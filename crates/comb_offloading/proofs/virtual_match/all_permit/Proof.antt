@@ -2,7 +2,6 @@
 use Prim.Native.Nat.{_≤_, _-_}
 use mathlib.Core.Path.{_≡_}
 use mathlib.Core.Bool.{true}
-use native.Mathlib.Omega.{arith}
 use Rattle.places.specs.Wired.{degree-wired}
 use Rattle.comb_offloading.specs.Around.{allPermit}
 use Rattle.comb_offloading.proofs.Turns.{walk}
@@ -11,7 +10,7 @@ use Rattle.comb_offloading.proofs.virtual_match.all_permit.Statement.{s
 use Rattle.comb_offloading.proofs.virtual_match.all_permit.Tie as tie
 
 abbrev Inv-loop : tie.InvT-loop
-Inv-loop edge edges fetched registers places degrees ne v n k₀ k = (k ≤ n) × (allPermit edges registers fetched (edge .0) places v ne k ≡ true)
+Inv-loop edge edges fetched registers places degrees ne v n k₀ k = (n ≤ 16) × (k ≤ n) × (allPermit edges registers fetched (edge .0) places v ne k ≡ true)
 
 abbrev μ-loop : tie.MeasureT-loop
 μ-loop edge edges fetched registers places degrees ne v n k₀ k = n - k
@@ -22,23 +21,23 @@ cast-v c = search (needs, walk)
 element-copy-out-n : tie.Need-element-copy-out-n Inv-loop μ-loop
 element-copy-out-n c = search (needs, walk)
 
-cast-n : tie.Need-cast-n Inv-loop μ-loop
-cast-n c = omega (arith, degree-wired)
-
 loop-holds : tie.Need-loop-holds Inv-loop μ-loop
-loop-holds c = search (needs, walk)
+loop-holds c = search (needs, walk, degree-wired)
 
 mul-permits : tie.Need-mul-permits Inv-loop μ-loop
 mul-permits c = search (needs, walk)
 
+cast-permits : tie.Need-cast-permits Inv-loop μ-loop
+cast-permits c = search (needs, walk)
+
 add-permits : tie.Need-add-permits Inv-loop μ-loop
-add-permits c = omega (arith, degree-wired)
+add-permits c = search (needs, walk)
 
 mul-permits-2 : tie.Need-mul-permits-2 Inv-loop μ-loop
-mul-permits-2 c = omega (arith, degree-wired)
+mul-permits-2 c = search (needs, walk)
 
 element-copy-out-permits : tie.Need-element-copy-out-permits Inv-loop μ-loop
-element-copy-out-permits c = omega (arith, degree-wired)
+element-copy-out-permits c = search (needs, walk)
 
 permits-requires : tie.Need-permits-requires Inv-loop μ-loop
 permits-requires c κs = search (needs, walk)
@@ -47,7 +46,7 @@ returns : tie.Need-returns Inv-loop μ-loop
 returns c = search (needs, walk)
 
 add-k : tie.Need-add-k Inv-loop μ-loop
-add-k c = omega (arith, degree-wired)
+add-k c = search (needs, walk)
 
 loop-less : tie.Need-loop-less Inv-loop μ-loop
 loop-less c = search (needs, walk)
@@ -66,9 +65,9 @@ all-permit-spec =
     μ-loop
     cast-v
     element-copy-out-n
-    cast-n
     loop-holds
     mul-permits
+    cast-permits
     add-permits
     mul-permits-2
     element-copy-out-permits

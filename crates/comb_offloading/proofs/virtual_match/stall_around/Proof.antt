@@ -1,7 +1,6 @@
 -- The loop holds the flags after the places passed; over all places these are the definition's. The measure is what is left of the places.
 use Prim.Native.Nat.{_≤_, _-_}
 use mathlib.Core.Path.{_≡_}
-use native.Mathlib.Omega.{arith}
 use Rattle.places.specs.Wired.{degree-wired}
 use Rattle.comb_offloading.specs.Around.{stallsAlong}
 use Rattle.comb_offloading.proofs.Turns.{along}
@@ -10,7 +9,7 @@ use Rattle.comb_offloading.proofs.virtual_match.stall_around.Statement.
 use Rattle.comb_offloading.proofs.virtual_match.stall_around.Tie as tie
 
 abbrev Inv-loop : tie.InvT-loop
-Inv-loop edge edges fetched registers places degrees ne vertices₀ v n k₀ vertices k = (k ≤ n) × (vertices ≡ stallsAlong edges registers fetched (edge .0) places v vertices₀ k)
+Inv-loop edge edges fetched registers places degrees ne vertices₀ v n k₀ vertices k = (n ≤ 16) × (k ≤ n) × (vertices ≡ stallsAlong edges registers fetched (edge .0) places v vertices₀ k)
 
 abbrev μ-loop : tie.MeasureT-loop
 μ-loop edge edges fetched registers places degrees ne vertices₀ v n k₀ vertices k = n - k
@@ -24,29 +23,29 @@ cast-v c = search (needs, along)
 element-copy-out-n : tie.Need-element-copy-out-n Inv-loop μ-loop
 element-copy-out-n c = search (needs, along)
 
-cast-n : tie.Need-cast-n Inv-loop μ-loop
-cast-n c = omega (arith, degree-wired)
-
 loop-holds : tie.Need-loop-holds Inv-loop μ-loop
-loop-holds c = search (needs, along)
+loop-holds c = search (needs, along, degree-wired)
 
 mul-stall-far : tie.Need-mul-stall-far Inv-loop μ-loop
 mul-stall-far c = search (needs, along)
 
+cast-stall-far : tie.Need-cast-stall-far Inv-loop μ-loop
+cast-stall-far c = search (needs, along)
+
 add-stall-far : tie.Need-add-stall-far Inv-loop μ-loop
-add-stall-far c = omega (arith, degree-wired)
+add-stall-far c = search (needs, along)
 
 mul-stall-far-2 : tie.Need-mul-stall-far-2 Inv-loop μ-loop
-mul-stall-far-2 c = omega (arith, degree-wired)
+mul-stall-far-2 c = search (needs, along)
 
 element-copy-out-stall-far : tie.Need-element-copy-out-stall-far Inv-loop μ-loop
-element-copy-out-stall-far c = omega (arith, degree-wired)
+element-copy-out-stall-far c = search (needs, along)
 
 stall-far-requires : tie.Need-stall-far-requires Inv-loop μ-loop
 stall-far-requires c κs = search (needs, along)
 
 add-k : tie.Need-add-k Inv-loop μ-loop
-add-k c = omega (arith, degree-wired)
+add-k c = search (needs, along)
 
 loop-less : tie.Need-loop-less Inv-loop μ-loop
 loop-less c = search (needs, along)
@@ -66,9 +65,9 @@ stall-around-spec =
     raise-requires
     cast-v
     element-copy-out-n
-    cast-n
     loop-holds
     mul-stall-far
+    cast-stall-far
     add-stall-far
     mul-stall-far-2
     element-copy-out-stall-far
