@@ -10,27 +10,25 @@ use Rattle.rules.specs.Graph.{unitOf}
 use Rattle.rules.specs.Units.{raise, edgeOf, holds, stalls, stalledVertices, stalledEdges}
 use Rattle.rules.specs.declared.graph.OffloadingType.{OffloadingType}
 
-module _ (es rs fs : List ℕ) (ne : ℕ) where
-  -- one unit
-  unfoldable pub vertexTurn : OffloadingType → List Bool → List Bool
-  vertexTurn u t = pick (holds es rs fs ne u) (stalls es rs fs ne u t) t
+-- the flags of the edges: "Each holding unit stalls its edge". Those of the vertices are `stalls` of document 01's
+unfoldable pub stallsEdge : OffloadingType → List Bool → List Bool
+stallsEdge u flags = raise flags (edgeOf u)
 
-  unfoldable pub edgeTurn : OffloadingType → List Bool → List Bool
-  edgeTurn u t = pick (holds es rs fs ne u) (raise t (edgeOf u)) t
+-- what f does, by the units that hold
+module _ (es rs fs : List ℕ) (ne : ℕ) (f : OffloadingType → List Bool → List Bool) where
+  unfoldable pub byUnit : OffloadingType → List Bool → List Bool
+  byUnit u flags = pick (holds es rs fs ne u) (f u flags) flags
 
-  -- the first n of the units us
-  module _ (us : List ℕ) where
-    unfoldable pub vertexTurns : List Bool → ℕ → List Bool
-    vertexTurns flags n = upTo (λ k t. vertexTurn (unitOf (getD us k 0)) t) flags n
+  -- by the first n of the units us
+  unfoldable pub byUnits : List ℕ → List Bool → ℕ → List Bool
+  byUnits us flags n = upTo (λ k t. byUnit (unitOf (getD us k 0)) t) flags n
 
-    unfoldable pub edgeTurns : List Bool → ℕ → List Bool
-    edgeTurns flags n = upTo (λ k t. edgeTurn (unitOf (getD us k 0)) t) flags n
+-- from blank flags this is document 01's
+module _ (es rs fs : List ℕ) (ne : ℕ) (us : List ℕ) (nu : ℕ) where
+  pub blank-vertices : byUnits es rs fs ne (stalls es rs fs ne) us (replicate 256 false) nu ≡ stalledVertices es rs fs ne us nu
+  unfolding byUnits byUnit stalledVertices
+  blank-vertices = refl
 
-    -- from blank flags these are document 01's
-    pub blank-vertices : (nu : ℕ) → vertexTurns (replicate 256 false) nu ≡ stalledVertices es rs fs ne us nu
-    unfolding vertexTurns vertexTurn stalledVertices
-    blank-vertices nu = refl
-
-    pub blank-edges : (nu : ℕ) → edgeTurns (replicate 1_024 false) nu ≡ stalledEdges es rs fs ne us nu
-    unfolding edgeTurns edgeTurn stalledEdges
-    blank-edges nu = refl
+  pub blank-edges : byUnits es rs fs ne stallsEdge us (replicate 1_024 false) nu ≡ stalledEdges es rs fs ne us nu
+  unfolding byUnits byUnit stallsEdge stalledEdges
+  blank-edges = refl

@@ -9,6 +9,7 @@ ghost use Prim.Native.Nat.{_<_};
 ghost use Rattle.laws.specs.Choice.{_and_};
 ghost use Rattle.rules.specs.Fetch.{tight};
 ghost use Rattle.rules.specs.Registers as Registers;
+ghost use Rattle.comb_offloading.specs.Vertex.{eagerBy};
 
 // "edge tight, named end virtual, other end a growing defect"
 pub fn meets_virtual<'a>(
@@ -20,7 +21,7 @@ pub fn meets_virtual<'a>(
     registers: &'a [u64; 256],
 ) -> bool
     requires { ⌜ (edge .0 < 1_024) × (vertex .0 < 256) × (regular .0 < 256) ⌝ }
-    ensures { λ r. ⌜ r ≡ (Registers.at (now (registers .entry)) (vertex .0) .«is_virtual» and (Registers.at (now (registers .entry)) (regular .0) .«is_defect» and Registers.growing (Registers.at (now (registers .entry)) (regular .0) .speed)) and tight (now (edges .entry)) (now (registers .entry)) (now (fetched .entry)) (edge .0)) ⌝ }
+    ensures { λ r. ⌜ r ≡ (Registers.at (now (registers .entry)) (vertex .0) .«is_virtual» and eagerBy (now (registers .entry)) (regular .0) and tight (now (edges .entry)) (now (registers .entry)) (now (fetched .entry)) (edge .0)) ⌝ }
 {
     if !is_virtual(vertex, registers) {
         return false;

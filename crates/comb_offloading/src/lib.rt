@@ -22,7 +22,7 @@ ghost use Prim.Native.Nat.{min};
 ghost use Rattle.rules.specs.Units as Units;
 ghost use Rattle.places.specs.Wired.{Wired};
 ghost use Rattle.comb_offloading.specs.Unit.{Within};
-ghost use Rattle.comb_offloading.specs.Offload.{vertexTurn, edgeTurn, vertexTurns, edgeTurns};
+ghost use Rattle.comb_offloading.specs.Offload.{stallsEdge, byUnit, byUnits};
 
 fn holds<'a>(
     unit: OffloadingType,
@@ -37,37 +37,37 @@ fn holds<'a>(
     ensures { λ r. ⌜ r ≡ Units.holds (now (edges .entry)) (now (registers .entry)) (now (fetched .entry)) ne unit ⌝ }
 {
     match unit {
-        OffloadingType::DefectMatch { edge } => defect_match(
-            edge,
-            edges,
-            fetched,
-            registers,
-            places,
-            degrees,
-            ne,
-        ),
-        OffloadingType::VirtualMatch { edge, vertex } => virtual_match(
-            edge,
-            vertex,
-            peer_of(edge, vertex, edges),
-            edges,
-            fetched,
-            registers,
-            places,
-            degrees,
-            ne,
-        ),
-        OffloadingType::FusionMatch { edge, vertex } => fusion_match(
-            edge,
-            vertex,
-            peer_of(edge, vertex, edges),
-            edges,
-            fetched,
-            registers,
-            places,
-            degrees,
-            ne,
-        ),
+        OffloadingType::DefectMatch { edge } => {
+            defect_match(edge, edges, fetched, registers, places, degrees, ne)
+        }
+        OffloadingType::VirtualMatch { edge, vertex } => {
+            let regular = peer_of(edge, vertex, edges);
+            virtual_match(
+                edge,
+                vertex,
+                regular,
+                edges,
+                fetched,
+                registers,
+                places,
+                degrees,
+                ne,
+            )
+        }
+        OffloadingType::FusionMatch { edge, vertex } => {
+            let regular = peer_of(edge, vertex, edges);
+            fusion_match(
+                edge,
+                vertex,
+                regular,
+                edges,
+                fetched,
+                registers,
+                places,
+                degrees,
+                ne,
+            )
+        }
     }
 }
 
@@ -87,21 +87,23 @@ fn stall<'a>(
 {
     match unit {
         OffloadingType::DefectMatch { edge } => stall_ends(edge, edges, vertices),
-        OffloadingType::VirtualMatch { edge, vertex } => stall_around(
-            edge,
-            peer_of(edge, vertex, edges),
-            edges,
-            fetched,
-            registers,
-            places,
-            degrees,
-            ne,
-            vertices,
-        ),
-        OffloadingType::FusionMatch { edge, vertex } => raise(
-            peer_of(edge, vertex, edges),
-            vertices,
-        ),
+        OffloadingType::VirtualMatch { edge, vertex } => {
+            let regular = peer_of(edge, vertex, edges);
+            stall_around(
+                edge,
+                regular,
+                edges,
+                fetched,
+                registers,
+                places,
+                degrees,
+                ne,
+                vertices,
+            )
+        }
+        OffloadingType::FusionMatch { edge, vertex } => {
+            raise(peer_of(edge, vertex, edges), vertices)
+        }
     }
 }
 
@@ -117,8 +119,8 @@ fn offload_unit<'a>(
     stalled: &mut [bool; 1024],
 )
     requires { ⌜ Within unit × Wired (now edges) ne (now places) (now degrees) ⌝ }
-    ensures { λ r. ⌜ now (vertices .exit) ≡ vertexTurn (now (edges .entry)) (now (registers .entry)) (now (fetched .entry)) ne unit (now (vertices .entry)) ⌝ }
-    ensures { λ r. ⌜ now (stalled .exit) ≡ edgeTurn (now (edges .entry)) (now (registers .entry)) (now (fetched .entry)) ne unit (now (stalled .entry)) ⌝ }
+    ensures { λ r. ⌜ now (vertices .exit) ≡ byUnit (now (edges .entry)) (now (registers .entry)) (now (fetched .entry)) ne (Units.stalls (now (edges .entry)) (now (registers .entry)) (now (fetched .entry)) ne) unit (now (vertices .entry)) ⌝ }
+    ensures { λ r. ⌜ now (stalled .exit) ≡ byUnit (now (edges .entry)) (now (registers .entry)) (now (fetched .entry)) ne stallsEdge unit (now (stalled .entry)) ⌝ }
 {
     if !holds(unit, edges, fetched, registers, places, degrees, ne) {
         return;
@@ -157,8 +159,8 @@ pub fn offload<'a>(
     stalled: &mut [bool; 1024],
 )
     requires { ⌜ Wired (now edges) ne (now places) (now degrees) ⌝ }
-    ensures { λ r. ⌜ now (vertices .exit) ≡ vertexTurns (now (edges .entry)) (now (registers .entry)) (now (fetched .entry)) ne (now (units .entry)) (now (vertices .entry)) (min nu 2_048) ⌝ }
-    ensures { λ r. ⌜ now (stalled .exit) ≡ edgeTurns (now (edges .entry)) (now (registers .entry)) (now (fetched .entry)) ne (now (units .entry)) (now (stalled .entry)) (min nu 2_048) ⌝ }
+    ensures { λ r. ⌜ now (vertices .exit) ≡ byUnits (now (edges .entry)) (now (registers .entry)) (now (fetched .entry)) ne (Units.stalls (now (edges .entry)) (now (registers .entry)) (now (fetched .entry)) ne) (now (units .entry)) (now (vertices .entry)) (min nu 2_048) ⌝ }
+    ensures { λ r. ⌜ now (stalled .exit) ≡ byUnits (now (edges .entry)) (now (registers .entry)) (now (fetched .entry)) ne stallsEdge (now (units .entry)) (now (stalled .entry)) (min nu 2_048) ⌝ }
 {
     let n = at_most_2048(nu);
     let mut k = 0;

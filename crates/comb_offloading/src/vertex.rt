@@ -6,11 +6,11 @@ use rules::registers::view;
 ghost use mathlib.Core.Path.{_≡_};
 ghost use Prim.Native.Nat.{_<_};
 ghost use lib.Dec.{eqb};
-ghost use Rattle.laws.specs.Choice.{_and_};
 ghost use Rattle.rules.specs.Fetch.{tightCount};
 ghost use Rattle.rules.specs.Registers as Registers;
 ghost use Rattle.rules.specs.Units as Units;
 ghost use Rattle.places.specs.Wired.{Wired};
+ghost use Rattle.comb_offloading.specs.Vertex.{eagerBy};
 
 fn at(vertex: VertexIndex, registers: &[u64; 256]) -> VertexRegisters
     requires { ⌜ vertex .0 < 256 ⌝ }
@@ -33,10 +33,10 @@ pub fn is_defect(vertex: VertexIndex, registers: &[u64; 256]) -> bool
     at(vertex, registers).is_defect
 }
 
-// a growing defect
+// A growing defect.
 pub fn is_eager(vertex: VertexIndex, registers: &[u64; 256]) -> bool
     requires { ⌜ vertex .0 < 256 ⌝ }
-    ensures { λ r. ⌜ r ≡ (Registers.at (now (registers .entry)) (vertex .0) .«is_defect» and Registers.growing (Registers.at (now (registers .entry)) (vertex .0) .speed)) ⌝ }
+    ensures { λ r. ⌜ r ≡ eagerBy (now (registers .entry)) (vertex .0) ⌝ }
 {
     let seen = at(vertex, registers);
     if seen.is_defect {

@@ -1,5 +1,5 @@
 -- Each test that fails settles it, as in the definition.
-use Rattle.comb_offloading.proofs.Turned.{row}
+use Rattle.comb_offloading.proofs.Row.{row}
 use borrow.Author.Needs.{needs}
 use Rattle.comb_offloading.proofs.boundary.meets_virtual.Statement.{statement}
 use Rattle.comb_offloading.proofs.boundary.meets_virtual.Tie as tie

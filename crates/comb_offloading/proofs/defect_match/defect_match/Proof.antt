@@ -1,6 +1,6 @@
 -- Each test that fails settles it, as in the definition.
-use Rattle.comb_offloading.proofs.Turned.{row}
-use Rattle.comb_offloading.proofs.Turns.{by-ends}
+use Rattle.comb_offloading.proofs.Row.{row}
+use Rattle.comb_offloading.proofs.Ends.{by-ends}
 use borrow.Author.Needs.{needs}
 use Rattle.comb_offloading.proofs.defect_match.defect_match.Statement.{statement}
 use Rattle.comb_offloading.proofs.defect_match.defect_match.Tie as tie

@@ -1,5 +1,5 @@
 -- The registers are read in the hand.
-use Rattle.comb_offloading.proofs.Turns.{eagers}
+use Rattle.comb_offloading.proofs.Own.{eagers}
 use borrow.Author.Needs.{needs}
 use Rattle.comb_offloading.proofs.vertex.is_eager.Statement.{statement}
 use Rattle.comb_offloading.proofs.vertex.is_eager.Tie as tie

@@ -1,5 +1,5 @@
 -- The code's tests are the definition's.
-use Rattle.comb_offloading.proofs.Turns.{others}
+use Rattle.comb_offloading.proofs.Place.{others}
 use borrow.Author.Needs.{needs}
 use Rattle.comb_offloading.proofs.virtual_match.is_tight_other.Statement.{statement}
 use Rattle.comb_offloading.proofs.virtual_match.is_tight_other.Tie as tie

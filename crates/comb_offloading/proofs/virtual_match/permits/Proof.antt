@@ -1,5 +1,5 @@
 -- Each way out is the definition's at the far end that the place names.
-use Rattle.comb_offloading.proofs.Turns.{permit}
+use Rattle.comb_offloading.proofs.Place.{permit}
 use borrow.Author.Needs.{needs}
 use Rattle.comb_offloading.proofs.virtual_match.permits.Statement.{statement}
 use Rattle.comb_offloading.proofs.virtual_match.permits.Tie as tie

@@ -1,5 +1,5 @@
 -- The far end's flag is raised where the place holds a tight other edge.
-use Rattle.comb_offloading.proofs.Turns.{stall}
+use Rattle.comb_offloading.proofs.Place.{stall}
 use borrow.Author.Needs.{needs}
 use Rattle.comb_offloading.proofs.virtual_match.stall_far.Statement.{statement}
 use Rattle.comb_offloading.proofs.virtual_match.stall_far.Tie as tie
