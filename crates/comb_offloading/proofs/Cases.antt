@@ -4,12 +4,12 @@ use mathlib.Core.Path.{_≡_}
 use mathlib.Core.Bool.{Bool}
 use mathlib.Core.List.{List}
 use Rattle.rules.specs.Graph.{leftOf, rightOf, farEnd}
-use Rattle.rules.specs.Units.{raise, edgeOf, defectMatch, virtualMatch, fusionMatch, holds, stallsAround, stalls}
+use Rattle.rules.specs.Units.{raise, defectMatch, virtualMatch, fusionMatch, holds, stallsAround, stalls}
 use Rattle.rules.specs.declared.graph.OffloadingType.{OffloadingType}
 use Rattle.rules.specs.declared.graph.OffloadingType.the-variants.{DefectMatch, VirtualMatch, FusionMatch}
 use Rattle.rules.specs.declared.index.EdgeIndex.{EdgeIndex}
 use Rattle.rules.specs.declared.index.VertexIndex.{VertexIndex}
-use Rattle.comb_offloading.specs.Unit.{Within, vertexOf}
+use Rattle.comb_offloading.specs.Unit.{Within}
 
 module _ {u : OffloadingType} {e : EdgeIndex} (h : u ≡ DefectMatch e) where
   pub defect-edge : Within u → e .0 < 1_024
@@ -23,7 +23,6 @@ module _ {u : OffloadingType} {e : EdgeIndex} (h : u ≡ DefectMatch e) where
   unfolding stalls
   defect-stalls es rs fs ne t p = rw h p
 
--- x is the other end
 module _ {u : OffloadingType} {e : EdgeIndex} {w : VertexIndex} (h : u ≡ VirtualMatch e w) where
   pub virtual-edge : Within u → e .0 < 1_024
   virtual-edge i = rw h at (i .edge)
@@ -31,14 +30,15 @@ module _ {u : OffloadingType} {e : EdgeIndex} {w : VertexIndex} (h : u ≡ Virtu
   pub virtual-vertex : Within u → w .0 < 256
   virtual-vertex i = rw h at (i .vertex)
 
-  module _ (es rs fs : List ℕ) (ne : ℕ) {x : ℕ} (q : x ≡ farEnd es (w .0) (e .0)) where
-    pub virtual-holds : {r : Bool} → r ≡ virtualMatch es rs fs ne (e .0) (w .0) x → r ≡ holds es rs fs ne u
-    unfolding holds
-    virtual-holds p = rw (h, ← q) p
+  pub virtual-holds : (es rs fs : List ℕ) (ne : ℕ) {r : Bool} → r ≡ virtualMatch es rs fs ne (e .0) (w .0) (farEnd es (w .0) (e .0)) → r ≡ holds es rs fs ne u
+  unfolding holds
+  virtual-holds es rs fs ne p = rw h p
 
-    pub virtual-stalls : (t : List Bool) {s : List Bool} → s ≡ stallsAround es rs fs ne (e .0) x t → s ≡ stalls es rs fs ne u t
-    unfolding stalls
-    virtual-stalls t p = rw (h, ← q) p
+  -- x is the other end
+  pub virtual-stalls : (es rs fs : List ℕ) (ne : ℕ) (t : List Bool) {x : ℕ} → x ≡ farEnd es (w .0) (e .0) → {s : List Bool}
+      → s ≡ stallsAround es rs fs ne (e .0) x t → s ≡ stalls es rs fs ne u t
+  unfolding stalls
+  virtual-stalls es rs fs ne t q p = rw (h, ← q) p
 
 module _ {u : OffloadingType} {e : EdgeIndex} {w : VertexIndex} (h : u ≡ FusionMatch e w) where
   pub fusion-edge : Within u → e .0 < 1_024
@@ -47,14 +47,13 @@ module _ {u : OffloadingType} {e : EdgeIndex} {w : VertexIndex} (h : u ≡ Fusio
   pub fusion-vertex : Within u → w .0 < 256
   fusion-vertex i = rw h at (i .vertex)
 
-  module _ (es rs fs : List ℕ) (ne : ℕ) {x : ℕ} (q : x ≡ farEnd es (w .0) (e .0)) where
-    pub fusion-holds : {r : Bool} → r ≡ fusionMatch es rs fs ne (e .0) (w .0) x → r ≡ holds es rs fs ne u
-    unfolding holds
-    fusion-holds p = rw (h, ← q) p
+  pub fusion-holds : (es rs fs : List ℕ) (ne : ℕ) {r : Bool} → r ≡ fusionMatch es rs fs ne (e .0) (w .0) (farEnd es (w .0) (e .0)) → r ≡ holds es rs fs ne u
+  unfolding holds
+  fusion-holds es rs fs ne p = rw h p
 
-    pub fusion-stalls : (t : List Bool) {s : List Bool} → s ≡ raise t x → s ≡ stalls es rs fs ne u t
-    unfolding stalls
-    fusion-stalls t p = rw (h, ← q) p
+  pub fusion-stalls : (es rs fs : List ℕ) (ne : ℕ) (t : List Bool) {s : List Bool} → s ≡ raise t (farEnd es (w .0) (e .0)) → s ≡ stalls es rs fs ne u t
+  unfolding stalls
+  fusion-stalls es rs fs ne t p = rw h p
 
 pub ruleset cases =
     (defect-edge, defect-holds, defect-stalls, virtual-edge, virtual-vertex, virtual-holds, virtual-stalls, fusion-edge, fusion-vertex, fusion-holds, fusion-stalls)

@@ -3,6 +3,8 @@ mod boundary;
 mod defect_match;
 mod edge;
 mod fusion_match;
+mod other;
+mod stall_around;
 mod unit;
 mod vertex;
 mod virtual_match;
@@ -11,10 +13,10 @@ use crate::defect_match::defect_match;
 use crate::defect_match::stall_ends;
 use crate::edge::peer_of;
 use crate::fusion_match::fusion_match;
+use crate::fusion_match::stall_peer;
+use crate::stall_around::stall_around;
 use crate::unit::edge_of;
 use crate::unit::unit_of;
-use crate::vertex::raise;
-use crate::virtual_match::stall_around;
 use crate::virtual_match::virtual_match;
 use rules::graph::OffloadingType;
 ghost use mathlib.Core.Path.{_≡_};
@@ -41,32 +43,10 @@ fn holds<'a>(
             defect_match(edge, edges, fetched, registers, places, degrees, ne)
         }
         OffloadingType::VirtualMatch { edge, vertex } => {
-            let regular = peer_of(edge, vertex, edges);
-            virtual_match(
-                edge,
-                vertex,
-                regular,
-                edges,
-                fetched,
-                registers,
-                places,
-                degrees,
-                ne,
-            )
+            virtual_match(edge, vertex, edges, fetched, registers, places, degrees, ne)
         }
         OffloadingType::FusionMatch { edge, vertex } => {
-            let regular = peer_of(edge, vertex, edges);
-            fusion_match(
-                edge,
-                vertex,
-                regular,
-                edges,
-                fetched,
-                registers,
-                places,
-                degrees,
-                ne,
-            )
+            fusion_match(edge, vertex, edges, fetched, registers, places, degrees, ne)
         }
     }
 }
@@ -101,9 +81,7 @@ fn stall<'a>(
                 vertices,
             )
         }
-        OffloadingType::FusionMatch { edge, vertex } => {
-            raise(peer_of(edge, vertex, edges), vertices)
-        }
+        OffloadingType::FusionMatch { edge, vertex } => stall_peer(edge, vertex, edges, vertices),
     }
 }
 

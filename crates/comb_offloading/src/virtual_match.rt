@@ -1,47 +1,20 @@
 // "VirtualMatch: edge tight, named end virtual, other end a growing defect, and each other edge of that end untight or leading to a non-defect
-// with tight count 1; stalls that end and the far end of each tight other edge"
+// with tight count 1"
 use crate::boundary::meets_virtual;
-use crate::edge::is_tight;
+use crate::edge::peer_of;
+use crate::other::far_at;
+use crate::other::is_tight_other;
 use crate::vertex::is_defect;
 use crate::vertex::is_unique_tight;
-use crate::vertex::raise;
 use rules::index::EdgeIndex;
 use rules::index::VertexIndex;
 ghost use mathlib.Core.Path.{_≡_};
 ghost use Prim.Native.Nat.{_<_};
+ghost use Rattle.rules.specs.Graph.{farEnd};
 ghost use Rattle.rules.specs.Units as Units;
 ghost use Rattle.places.specs.Places.{edgeIn, farIn};
 ghost use Rattle.places.specs.Wired.{Wired};
-ghost use Rattle.comb_offloading.specs.Around.{tightOther, permitsBy, stallsBy, othersPermit};
-
-fn edge_at(place: u32) -> EdgeIndex
-    ensures { λ r. ⌜ r .0 ≡ edgeIn place ⌝ }
-{
-    EdgeIndex((place % 1_024) as u16)
-}
-
-fn far_at(place: u32) -> VertexIndex
-    ensures { λ r. ⌜ r .0 ≡ farIn place ⌝ }
-{
-    VertexIndex((place / 1_024 % 256) as u16)
-}
-
-// Other by number: a parallel edge is an other one.
-fn is_tight_other<'a>(
-    place: u32,
-    edge: EdgeIndex,
-    edges: &'a [u32; 1024],
-    fetched: &'a [u32; 1024],
-    registers: &'a [u64; 256],
-) -> bool
-    ensures { λ r. ⌜ r ≡ tightOther (now (edges .entry)) (now (registers .entry)) (now (fetched .entry)) (edge .0) (edgeIn place) ⌝ }
-{
-    let other = edge_at(place);
-    if other.0 == edge.0 {
-        return false;
-    }
-    is_tight(other, edges, fetched, registers)
-}
+ghost use Rattle.comb_offloading.specs.Around.{permitsBy, othersPermit};
 
 fn permits<'a>(
     place: u32,
@@ -100,11 +73,9 @@ fn all_permit<'a>(
     true
 }
 
-// `regular` is the other end.
 pub fn virtual_match<'a>(
     edge: EdgeIndex,
     vertex: VertexIndex,
-    regular: VertexIndex,
     edges: &'a [u32; 1024],
     fetched: &'a [u32; 1024],
     registers: &'a [u64; 256],
@@ -112,9 +83,10 @@ pub fn virtual_match<'a>(
     degrees: &'a [u8; 256],
     ne: usize,
 ) -> bool
-    requires { ⌜ (edge .0 < 1_024) × (vertex .0 < 256) × (regular .0 < 256) × Wired (now edges) ne (now places) (now degrees) ⌝ }
-    ensures { λ r. ⌜ r ≡ Units.virtualMatch (now (edges .entry)) (now (registers .entry)) (now (fetched .entry)) ne (edge .0) (vertex .0) (regular .0) ⌝ }
+    requires { ⌜ (edge .0 < 1_024) × (vertex .0 < 256) × Wired (now edges) ne (now places) (now degrees) ⌝ }
+    ensures { λ r. ⌜ r ≡ Units.virtualMatch (now (edges .entry)) (now (registers .entry)) (now (fetched .entry)) ne (edge .0) (vertex .0) (farEnd (now (edges .entry)) (vertex .0) (edge .0)) ⌝ }
 {
+    let regular = peer_of(edge, vertex, edges);
     if !meets_virtual(edge, vertex, regular, edges, fetched, registers) {
         return false;
     }
@@ -128,51 +100,4 @@ pub fn virtual_match<'a>(
         degrees,
         ne,
     )
-}
-
-fn stall_far<'a>(
-    place: u32,
-    edge: EdgeIndex,
-    edges: &'a [u32; 1024],
-    fetched: &'a [u32; 1024],
-    registers: &'a [u64; 256],
-    vertices: &mut [bool; 256],
-)
-    ensures { λ r. ⌜ now (vertices .exit) ≡ stallsBy (now (edges .entry)) (now (registers .entry)) (now (fetched .entry)) (edge .0) (edgeIn place) (farIn place) (now (vertices .entry)) ⌝ }
-{
-    if !is_tight_other(place, edge, edges, fetched, registers) {
-        return;
-    }
-    raise(far_at(place), vertices);
-}
-
-pub fn stall_around<'a>(
-    edge: EdgeIndex,
-    regular: VertexIndex,
-    edges: &'a [u32; 1024],
-    fetched: &'a [u32; 1024],
-    registers: &'a [u64; 256],
-    places: &'a [u32; 4096],
-    degrees: &'a [u8; 256],
-    ne: usize,
-    vertices: &mut [bool; 256],
-)
-    requires { ⌜ (regular .0 < 256) × Wired (now edges) ne (now places) (now degrees) ⌝ }
-    ensures { λ r. ⌜ now (vertices .exit) ≡ Units.stallsAround (now (edges .entry)) (now (registers .entry)) (now (fetched .entry)) ne (edge .0) (regular .0) (now (vertices .entry)) ⌝ }
-{
-    raise(regular, vertices);
-    let v = regular.0 as usize;
-    let n = degrees[v];
-    let mut k: u8 = 0;
-    while k < n {
-        stall_far(
-            places[v * 16 + k as usize],
-            edge,
-            edges,
-            fetched,
-            registers,
-            vertices,
-        );
-        k += 1;
-    }
 }

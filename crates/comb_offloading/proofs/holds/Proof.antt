@@ -13,17 +13,11 @@ defect-match-requires c κs = search (needs, cases)
 enum-known-unit-2 : tie.Need-enum-known-unit-2
 enum-known-unit-2 c = search (needs, cases)
 
-peer-of-requires : tie.Need-peer-of-requires
-peer-of-requires c κs = search (needs, cases)
-
 virtual-match-requires : tie.Need-virtual-match-requires
 virtual-match-requires c κs = search (needs, cases)
 
 enum-known-unit-3 : tie.Need-enum-known-unit-3
 enum-known-unit-3 c = search (needs, cases)
-
-peer-of-requires-2 : tie.Need-peer-of-requires-2
-peer-of-requires-2 c κs = search (needs, cases)
 
 fusion-match-requires : tie.Need-fusion-match-requires
 fusion-match-requires c κs = search (needs, cases)
@@ -44,10 +38,8 @@ holds-spec =
     enum-known-unit
     defect-match-requires
     enum-known-unit-2
-    peer-of-requires
     virtual-match-requires
     enum-known-unit-3
-    peer-of-requires-2
     fusion-match-requires
     returns
     returns-2

@@ -22,11 +22,8 @@ stall-around-requires c κs = search (needs, cases)
 enum-known-unit-3 : tie.Need-enum-known-unit-3
 enum-known-unit-3 c = search (needs, cases)
 
-peer-of-requires-2 : tie.Need-peer-of-requires-2
-peer-of-requires-2 c κs = search (needs, cases)
-
-raise-requires : tie.Need-raise-requires
-raise-requires c κs = search (needs, cases)
+stall-peer-requires : tie.Need-stall-peer-requires
+stall-peer-requires c κs = search (needs, cases)
 
 returns : tie.Need-returns
 returns c = search (needs, cases)
@@ -47,8 +44,7 @@ stall-spec =
     peer-of-requires
     stall-around-requires
     enum-known-unit-3
-    peer-of-requires-2
-    raise-requires
+    stall-peer-requires
     returns
     returns-2
     returns-3)

@@ -1,8 +1,8 @@
 -- The far end's flag is raised where the place holds a tight other edge.
 use Rattle.comb_offloading.proofs.Place.{stall}
 use borrow.Author.Needs.{needs}
-use Rattle.comb_offloading.proofs.virtual_match.stall_far.Statement.{statement}
-use Rattle.comb_offloading.proofs.virtual_match.stall_far.Tie as tie
+use Rattle.comb_offloading.proofs.stall_around.stall_far.Statement.{statement}
+use Rattle.comb_offloading.proofs.stall_around.stall_far.Tie as tie
 
 is-tight-other-requires : tie.Need-is-tight-other-requires
 is-tight-other-requires c κs = search (needs, stall)

@@ -6,8 +6,8 @@ use Rattle.places.specs.Wired.{degree-wired}
 use Rattle.comb_offloading.specs.Around.{stallsAlong}
 use Rattle.comb_offloading.proofs.Walk.{stalling}
 use borrow.Author.Needs.{needs}
-use Rattle.comb_offloading.proofs.virtual_match.stall_around.Statement.{statement}
-use Rattle.comb_offloading.proofs.virtual_match.stall_around.Tie as tie
+use Rattle.comb_offloading.proofs.stall_around.stall_around.Statement.{statement}
+use Rattle.comb_offloading.proofs.stall_around.stall_around.Tie as tie
 
 abbrev Inv-loop : tie.InvT-loop
 Inv-loop edge edges fetched registers places degrees ne vertices₀ v n k₀ vertices k =

@@ -1,8 +1,8 @@
 -- The code's tests are the definition's.
 use Rattle.comb_offloading.proofs.Place.{others}
 use borrow.Author.Needs.{needs}
-use Rattle.comb_offloading.proofs.virtual_match.is_tight_other.Statement.{statement}
-use Rattle.comb_offloading.proofs.virtual_match.is_tight_other.Tie as tie
+use Rattle.comb_offloading.proofs.other.is_tight_other.Statement.{statement}
+use Rattle.comb_offloading.proofs.other.is_tight_other.Tie as tie
 
 edge-at-requires : tie.Need-edge-at-requires
 edge-at-requires c κs = search (needs, others)
