@@ -1,11 +1,14 @@
 pub mod Choice
 pub mod Tests
+pub mod Connectives
 pub mod Table
 pub mod Fold
 pub mod First
+pub mod Leading
 pub mod Mask
 pub mod Listed
-pub mod Connectives
+pub mod Lists
+pub mod Walk
 pub mod Stored
 pub mod Orders
 pub mod Appended

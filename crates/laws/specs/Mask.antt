@@ -46,5 +46,8 @@ module _ (f : ℕ → Bool) where
   pub mask-below : (k m : ℕ) → m ≡ maskOf k f → m < 2 ^ k
   mask-below k m p = rw p (mask-lt k f)
 
+  pub mask-end : (k n d m : ℕ) → m ≡ maskOf k f → d ≡ n → k ≤ d → d ≤ k → m ≡ maskOf n f
+  mask-end k n d m p e l g = let z : k ≡ n = omega arith in rw (← z) p
+
 -- for `search (needs, masks)` at every need of a loop that sets bits
-pub ruleset masks = (mask-none, mask-step, mask-below)
+pub ruleset masks = (mask-none, mask-step, mask-below, mask-end)

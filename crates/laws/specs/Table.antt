@@ -125,5 +125,17 @@ module _ {A : Type 0} (f : ℕ → A) where
   pub paint-end : (n : ℕ) (xs : List A) (i : ℕ) {ys : List A} → ys ≡ paint i f xs → i ≤ n → n ≤ i → ys ≡ paint n f xs
   paint-end n xs i p l g = let e : i ≡ n = omega arith in rw (← e) p
 
+-- what is painted is seen below n only
+module _ {A : Type 0} (f g : ℕ → A) where
+  paintFrom-same : (i n : ℕ) (xs : List A) → ((k : ℕ) → i ≤ k → k < i + n → f k ≡ g k) → paintFrom i n f xs ≡ paintFrom i n g xs
+  unfolding paintFrom
+  paintFrom-same i zero xs h = refl
+  paintFrom-same i (suc n) [] h = refl
+  paintFrom-same i (suc n) (x ∷ xs) h = rw (h i (omega arith) (omega arith), paintFrom-same (suc i) n xs (λ k a b. h k (omega arith) (omega arith)))
+
+  pub paint-same : (n : ℕ) (xs : List A) → ((k : ℕ) → k < n → f k ≡ g k) → paint n f xs ≡ paint n g xs
+  unfolding paint
+  paint-same n xs h = paintFrom-same 0 n xs (λ k a b. h k (omega arith))
+
 -- for `search (needs, fills)` at every need of a loop that fills a table
 pub ruleset fills = (paint-none, paint-step, paint-end)

@@ -36,13 +36,13 @@ abbrev pub reported : Response → Finding
 reported (Reports f) = f
 reported OddRemaining = GrowLength NoLimit
 
+unfoldable pub vertexFinding : List ℕ → ℕ → Finding
+vertexFinding ys nv = upTo (λ v f. reduce f (vertexReport (at ys v))) (GrowLength NoLimit) nv
+
 module _ (es fs ys ss : List ℕ) where
   -- "16 is still given when a Conflict exists"
   unfoldable pub someOdd : ℕ → Bool
   someOdd ne = anyTo (λ e. odd (edgeResponse es fs ys ss e)) ne
 
-  unfoldable pub vertexFinding : ℕ → Finding
-  vertexFinding nv = upTo (λ v f. reduce f (vertexReport (at ys v))) (GrowLength NoLimit) nv
-
   unfoldable pub finding : ℕ → ℕ → Finding
-  finding ne nv = upTo (λ e f. reduce f (reported (edgeResponse es fs ys ss e))) (vertexFinding nv) ne
+  finding ne nv = upTo (λ e f. reduce f (reported (edgeResponse es fs ys ss e))) (vertexFinding ys nv) ne

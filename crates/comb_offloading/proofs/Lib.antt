@@ -1,0 +1,7 @@
+pub mod Row
+pub mod Own
+pub mod Ends
+pub mod Place
+pub mod Walk
+pub mod Cases
+pub mod Turns

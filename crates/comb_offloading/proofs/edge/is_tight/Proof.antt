@@ -1,0 +1,38 @@
+-- The edge's own words tell whether it is tight.
+use Rattle.comb_edge.specs.Tables.{tight-by}
+use borrow.Author.Needs.{needs}
+use Rattle.comb_offloading.proofs.edge.is_tight.Statement.{statement}
+use Rattle.comb_offloading.proofs.edge.is_tight.Tie as tie
+
+cast-e : tie.Need-cast-e
+cast-e c = search needs
+
+mul-post-fetch-is-tight : tie.Need-mul-post-fetch-is-tight
+mul-post-fetch-is-tight c = search needs
+
+element-copy-out-post-fetch-is-tight : tie.Need-element-copy-out-post-fetch-is-tight
+element-copy-out-post-fetch-is-tight c = search needs
+
+mul-post-fetch-is-tight-2 : tie.Need-mul-post-fetch-is-tight-2
+mul-post-fetch-is-tight-2 c = search needs
+
+element-copy-out-post-fetch-is-tight-2 : tie.Need-element-copy-out-post-fetch-is-tight-2
+element-copy-out-post-fetch-is-tight-2 c = search needs
+
+post-fetch-is-tight-requires : tie.Need-post-fetch-is-tight-requires
+post-fetch-is-tight-requires c κs = search needs
+
+returns : tie.Need-returns
+returns c = rw tight-by (c .post-fetch-is-tight .ensures)
+
+pub is-tight-spec : {M : Type 1} → statement M
+is-tight-spec =
+    tie.close
+    (tie.spec
+    cast-e
+    mul-post-fetch-is-tight
+    element-copy-out-post-fetch-is-tight
+    mul-post-fetch-is-tight-2
+    element-copy-out-post-fetch-is-tight-2
+    post-fetch-is-tight-requires
+    returns)

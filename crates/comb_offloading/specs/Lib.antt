@@ -1,0 +1,4 @@
+pub mod Unit
+pub mod Vertex
+pub mod Around
+pub mod Offload

@@ -1,0 +1,36 @@
+// The other edges of a vertex, place by place.
+use crate::edge::is_tight;
+use rules::index::EdgeIndex;
+use rules::index::VertexIndex;
+ghost use mathlib.Core.Path.{_≡_};
+ghost use Rattle.places.specs.Places.{edgeIn, farIn};
+ghost use Rattle.comb_offloading.specs.Around.{tightOther};
+
+fn edge_at(place: u32) -> EdgeIndex
+    ensures { λ r. ⌜ r .0 ≡ edgeIn place ⌝ }
+{
+    EdgeIndex((place % 1_024) as u16)
+}
+
+pub fn far_at(place: u32) -> VertexIndex
+    ensures { λ r. ⌜ r .0 ≡ farIn place ⌝ }
+{
+    VertexIndex((place / 1_024 % 256) as u16)
+}
+
+// Other by number: a parallel edge is an other one.
+pub fn is_tight_other<'a>(
+    place: u32,
+    edge: EdgeIndex,
+    edges: &'a [u32; 1024],
+    fetched: &'a [u32; 1024],
+    registers: &'a [u64; 256],
+) -> bool
+    ensures { λ r. ⌜ r ≡ tightOther (now (edges .entry)) (now (registers .entry)) (now (fetched .entry)) (edge .0) (edgeIn place) ⌝ }
+{
+    let other = edge_at(place);
+    if other.0 == edge.0 {
+        return false;
+    }
+    is_tight(other, edges, fetched, registers)
+}

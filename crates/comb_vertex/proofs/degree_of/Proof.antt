@@ -1,0 +1,22 @@
+use native.Mathlib.Omega.{arith}
+use Rattle.comb_vertex.specs.Walked.{degreeOf}
+use borrow.Author.Needs.{needs}
+use Rattle.comb_vertex.proofs.degree_of.Statement.{statement}
+use Rattle.comb_vertex.proofs.degree_of.Tie as tie
+
+element-copy-out-degree : tie.Need-element-copy-out-degree
+element-copy-out-degree c = search needs
+
+cast-result : tie.Need-cast-result
+cast-result c = search needs
+
+returns : tie.Need-returns
+unfolding degreeOf
+returns c = omega arith
+
+returns-2 : tie.Need-returns-2
+unfolding degreeOf
+returns-2 c = omega arith
+
+pub degree-of-spec : {M : Type 1} → statement M
+degree-of-spec = tie.close (tie.spec element-copy-out-degree cast-result returns returns-2)

@@ -1,0 +1,43 @@
+use Rattle.comb_edge.specs.Tables.{counted-tight-by}
+use Rattle.comb_vertex.specs.Tight.{tightAt}
+use borrow.Author.Needs.{needs}
+use Rattle.comb_vertex.proofs.tight.tight_at.Statement.{statement}
+use Rattle.comb_vertex.proofs.tight.tight_at.Tie as tie
+
+place-of-requires : tie.Need-place-of-requires
+place-of-requires c κs = search needs
+
+cast-e : tie.Need-cast-e
+cast-e c = search needs
+
+mul-post-fetch-count-tight : tie.Need-mul-post-fetch-count-tight
+mul-post-fetch-count-tight c = search needs
+
+element-copy-out-post-fetch-count-tight : tie.Need-element-copy-out-post-fetch-count-tight
+element-copy-out-post-fetch-count-tight c = search needs
+
+mul-post-fetch-count-tight-2 : tie.Need-mul-post-fetch-count-tight-2
+mul-post-fetch-count-tight-2 c = search needs
+
+element-copy-out-post-fetch-count-tight-2 : tie.Need-element-copy-out-post-fetch-count-tight-2
+element-copy-out-post-fetch-count-tight-2 c = search needs
+
+post-fetch-count-tight-requires : tie.Need-post-fetch-count-tight-requires
+post-fetch-count-tight-requires c κs = search needs
+
+returns : tie.Need-returns
+unfolding tightAt
+returns c = rw (← c .before .before .before .place-of .ensures, counted-tight-by) (c .post-fetch-count-tight .ensures)
+
+pub tight-at-spec : {M : Type 1} → statement M
+tight-at-spec =
+    tie.close
+    (tie.spec
+    place-of-requires
+    cast-e
+    mul-post-fetch-count-tight
+    element-copy-out-post-fetch-count-tight
+    mul-post-fetch-count-tight-2
+    element-copy-out-post-fetch-count-tight-2
+    post-fetch-count-tight-requires
+    returns)

@@ -1,0 +1,3 @@
+pub mod Execution
+pub mod Walked
+pub mod Tight

@@ -1,0 +1,72 @@
+// Stage 3 over all vertices.
+use crate::at;
+use rules::index::LayerId;
+use rules::index::VertexIndex;
+use rules::instruction::Instruction;
+use rules::refusal::Refusal;
+use rules::registers::Executed;
+use rules::registers::VertexRegisters;
+ghost use mathlib.Core.Bool.{false};
+ghost use mathlib.Core.Path.{_≡_};
+ghost use Prim.Native.Nat.{min};
+ghost use lib.ListN.{getD};
+ghost use Rattle.laws.specs.Choice.{_or_};
+ghost use Rattle.laws.specs.Table.{paint};
+ghost use Rattle.rules.specs.Execute as Execute;
+ghost use Rattle.rules.specs.Graph as Graph;
+ghost use Rattle.rules.specs.Registers as Registers;
+ghost use Rattle.comb_vertex.specs.Execution.{execution, executedWord, executedCount};
+
+// Whether all vertices took the instruction, or 14 or 15.
+pub enum Execution {
+    Done,
+    Refused(Refusal),
+}
+
+fn layer_of(vertices: &[u32; 256], v: u8) -> LayerId
+    ensures { λ r. ⌜ r .0 ≡ Graph.layerOf (now (vertices .entry)) v ⌝ }
+{
+    LayerId((vertices[v as usize] % 65_536) as u16)
+}
+
+fn has_layer(vertices: &[u32; 256], v: u8) -> bool
+    ensures { λ r. ⌜ r ≡ Graph.hasLayer (now (vertices .entry)) v ⌝ }
+{
+    vertices[v as usize] % 65_536 < 32_768
+}
+
+// "virtual with a layer"
+pub fn waits(vertices: &[u32; 256], v: u8, registers: VertexRegisters) -> bool
+    ensures { λ r. ⌜ r ≡ Execute.waits (now (vertices .entry)) v registers ⌝ }
+{
+    if has_layer(vertices, v) {
+        return registers.is_virtual;
+    }
+    false
+}
+
+fn is_still(vertices: &[u32; 256], registers: &[u64; 256], stalled: &[bool; 256], v: u8) -> bool
+    ensures { λ r. ⌜ r ≡ (getD (now (stalled .entry)) v false or Execute.waits (now (vertices .entry)) v (Registers.at (now (registers .entry)) v)) ⌝ }
+{
+    if stalled[v as usize] {
+        return true;
+    }
+    waits(vertices, v, at(registers, v))
+}
+
+fn execute_at(
+    vertices: &[u32; 256],
+    registers: &[u64; 256],
+    stalled: &[bool; 256],
+    instruction: Instruction,
+    v: u8,
+) -> Executed
+    ensures { λ r. ⌜ r ≡ Execute.executeAt (now (vertices .entry)) (now (registers .entry)) (now (stalled .entry)) instruction v ⌝ }
+{
+    at(registers, v).execute(
+        instruction,
+        VertexIndex(v as u16),
+        layer_of(vertices, v),
+        is_still(vertices, registers, stalled, v),
+    )
+}
