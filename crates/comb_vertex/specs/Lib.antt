@@ -1,3 +1,4 @@
 pub mod Execution
 pub mod Walked
 pub mod Tight
+pub mod Led

@@ -11,11 +11,10 @@ ghost use mathlib.Core.Path.{_≡_};
 ghost use Prim.Native.Nat.{min};
 ghost use lib.ListN.{getD};
 ghost use Rattle.laws.specs.Choice.{_or_};
-ghost use Rattle.laws.specs.Table.{paint};
 ghost use Rattle.rules.specs.Execute as Execute;
 ghost use Rattle.rules.specs.Graph as Graph;
 ghost use Rattle.rules.specs.Registers as Registers;
-ghost use Rattle.comb_vertex.specs.Execution.{execution, executedWord, executedCount};
+ghost use Rattle.comb_vertex.specs.Execution.{execution, executedInto};
 
 // Whether all vertices took the instruction, or 14 or 15.
 pub enum Execution {
@@ -69,4 +68,45 @@ fn execute_at(
         layer_of(vertices, v),
         is_still(vertices, registers, stalled, v),
     )
+}
+
+fn refusal_of(executed: Executed) -> Execution
+    ensures { λ r. ⌜ r ≡ execution (Execute.refusalOf executed) ⌝ }
+{
+    match executed {
+        Executed::Done(_) => Execution::Done,
+        Executed::BelowZero => Execution::Refused(Refusal::BelowZero),
+        Executed::AboveBound => Execution::Refused(Refusal::AboveBound),
+    }
+}
+
+fn at_most_256(n: usize) -> usize
+    ensures { λ r. ⌜ r ≡ min n 256 ⌝ }
+{
+    if n < 256 { n } else { 256 }
+}
+
+// The registers of the first `nv` vertices after the instruction, into a lent table; "lowest vertex decides", and it and those after it are not written.
+pub fn execute(
+    vertices: &[u32; 256],
+    registers: &[u64; 256],
+    stalled: &[bool; 256],
+    instruction: Instruction,
+    nv: usize,
+    out: &mut [u64; 256],
+) -> Execution
+    ensures { λ r. ⌜ r ≡ execution (Execute.executeRefusal (now (vertices .entry)) (now (registers .entry)) (now (stalled .entry)) instruction (min nv 256)) ⌝ }
+    ensures { λ r. ⌜ now (out .exit) ≡ executedInto (now (vertices .entry)) (now (registers .entry)) (now (stalled .entry)) instruction (min nv 256) (now (out .entry)) ⌝ }
+{
+    let n = at_most_256(nv);
+    let mut v: usize = 0;
+    while v < n {
+        let executed = execute_at(vertices, registers, stalled, instruction, v as u8);
+        let Executed::Done(next) = executed else {
+            return refusal_of(executed);
+        };
+        out[v] = next.keep();
+        v += 1;
+    }
+    Execution::Done
 }

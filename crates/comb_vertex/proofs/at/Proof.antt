@@ -1,3 +1,4 @@
+-- The word at an index is viewed.
 use Rattle.rules.specs.Registers.{at}
 use borrow.Author.Needs.{needs}
 use Rattle.comb_vertex.proofs.at.Statement.{statement}

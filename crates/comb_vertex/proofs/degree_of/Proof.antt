@@ -1,3 +1,4 @@
+-- The degree where it is below 16, else 16.
 use native.Mathlib.Omega.{arith}
 use Rattle.comb_vertex.specs.Walked.{degreeOf}
 use borrow.Author.Needs.{needs}

@@ -1,3 +1,4 @@
+-- Each argument is the definition's.
 use Rattle.rules.specs.Execute.{executeAt, still}
 use borrow.Author.Needs.{needs}
 use Rattle.comb_vertex.proofs.execute.execute_at.Statement.{statement}

@@ -1,3 +1,4 @@
+-- A layer is at most 32,767.
 use Rattle.rules.specs.Graph.{hasLayer, layerOf}
 use borrow.Author.Needs.{needs}
 use Rattle.comb_vertex.proofs.execute.has_layer.Statement.{statement}

@@ -1,3 +1,4 @@
+-- Stalled is tested first, as in the definition.
 use Rattle.laws.specs.Tests.{tests}
 use borrow.Author.Needs.{needs}
 use Rattle.comb_vertex.proofs.execute.is_still.Statement.{statement}

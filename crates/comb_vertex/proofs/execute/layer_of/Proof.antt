@@ -1,3 +1,4 @@
+-- The layer stands in the lowest 16 bits.
 use Rattle.rules.specs.Graph.{layerOf}
 use borrow.Author.Needs.{needs}
 use Rattle.comb_vertex.proofs.execute.layer_of.Statement.{statement}

@@ -1,3 +1,4 @@
+-- The layer is tested first, as in the definition.
 use Rattle.laws.specs.Tests.{tests}
 use Rattle.rules.specs.Execute.{waits}
 use borrow.Author.Needs.{needs}

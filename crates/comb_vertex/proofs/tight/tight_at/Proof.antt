@@ -1,3 +1,4 @@
+-- The edge at the place is counted tight by its own words.
 use Rattle.comb_edge.specs.Tables.{counted-tight-by}
 use Rattle.comb_vertex.specs.Tight.{tightAt}
 use borrow.Author.Needs.{needs}

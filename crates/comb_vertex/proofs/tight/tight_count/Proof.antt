@@ -1,3 +1,4 @@
+-- The ones of a mask are the places counted.
 use Rattle.laws.specs.Mask.{ones-mask}
 use borrow.Author.Needs.{needs}
 use Rattle.comb_vertex.proofs.tight.tight_count.Statement.{statement}

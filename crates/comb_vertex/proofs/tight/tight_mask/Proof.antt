@@ -1,3 +1,4 @@
+-- The mask holds the bits of the places passed. The measure is what is left of the degree.
 use Rattle.laws.specs.Mask.{maskOf, masks}
 use Rattle.comb_vertex.specs.Tight.{tightAt}
 use mathlib.Core.Path.{_≡_}
@@ -7,7 +8,8 @@ use Rattle.comb_vertex.proofs.tight.tight_mask.Statement.{statement}
 use Rattle.comb_vertex.proofs.tight.tight_mask.Tie as tie
 
 abbrev Inv-loop : tie.InvT-loop
-Inv-loop v places degrees edges fetched registers degree mask₀ k₀ mask k = (k ≤ degree) × (mask ≡ maskOf k (tightAt edges registers fetched places v))
+Inv-loop v places degrees edges fetched registers degree mask₀ k₀ mask k =
+    (k ≤ degree) × (mask ≡ maskOf k (tightAt edges registers fetched places v))
 
 abbrev μ-loop : tie.MeasureT-loop
 μ-loop v places degrees edges fetched registers degree mask₀ k₀ mask k = degree - k

@@ -1,3 +1,4 @@
+-- The bit stands above the mask, so that setting it adds it.
 use lib.Bits.{or-shifted-r}
 use lib.Pow.{shl-exact}
 use lib.Dec.{lit<}

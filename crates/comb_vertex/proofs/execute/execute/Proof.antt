@@ -1,0 +1,84 @@
+-- The vertices passed were all done, and their words are written. The measure is what is left of n.
+use Rattle.comb_vertex.proofs.Executing.{executing, turn-count, turn-refusal}
+use Rattle.laws.specs.Table.{paint}
+use Rattle.rules.specs.Execute.{executeRefusal}
+use Rattle.comb_vertex.specs.Execution.{executedWord, executedCount}
+use mathlib.Core.Option.{none}
+use mathlib.Core.Path.{_≡_}
+use Prim.Native.Nat.{_≤_, _-_}
+use borrow.Author.Needs.{needs}
+use Rattle.comb_vertex.proofs.execute.execute.Statement.{statement}
+use Rattle.comb_vertex.proofs.execute.execute.Tie as tie
+
+abbrev Inv-loop : tie.InvT-loop
+Inv-loop vertices registers stalled instruction nv out₀ n v₀ out v =
+    (v ≤ n) × (out ≡ paint v (executedWord vertices registers stalled instruction) out₀) × (executedCount vertices registers stalled instruction v ≡ v) × (executeRefusal vertices registers stalled instruction v ≡ none)
+
+abbrev μ-loop : tie.MeasureT-loop
+μ-loop vertices registers stalled instruction nv out₀ n v₀ out v = n - v
+
+at-most-256-requires : tie.Need-at-most-256-requires Inv-loop μ-loop
+at-most-256-requires c κs = search (needs, executing)
+
+loop-holds : tie.Need-loop-holds Inv-loop μ-loop
+loop-holds c = search (needs, executing)
+
+cast-execute-at : tie.Need-cast-execute-at Inv-loop μ-loop
+cast-execute-at c = search (needs, executing)
+
+execute-at-requires : tie.Need-execute-at-requires Inv-loop μ-loop
+execute-at-requires c κs = search (needs, executing)
+
+enum-known-executed : tie.Need-enum-known-executed Inv-loop μ-loop
+enum-known-executed c = search (needs, executing)
+
+refusal-of-requires : tie.Need-refusal-of-requires Inv-loop μ-loop
+refusal-of-requires c κs = search (needs, executing)
+
+returns : tie.Need-returns Inv-loop μ-loop
+returns c = search (needs, executing)
+
+keep-requires : tie.Need-keep-requires Inv-loop μ-loop
+keep-requires c κs = search (needs, executing)
+
+mul-out : tie.Need-mul-out Inv-loop μ-loop
+mul-out c = search (needs, executing)
+
+element-write-out : tie.Need-element-write-out Inv-loop μ-loop
+element-write-out c = search (needs, executing)
+
+add-v : tie.Need-add-v Inv-loop μ-loop
+add-v c = search (needs, executing)
+
+loop-less : tie.Need-loop-less Inv-loop μ-loop
+loop-less c = search (needs, executing)
+
+loop-again : tie.Need-loop-again Inv-loop μ-loop
+loop-again c =
+    let t = c .before .before .before .before .execute-at .ensures in
+    let e = c .before .before .executed .given .1 in
+    (search needs, search executing, turn-count _ _ _ _ _ _ t _ e (search needs), turn-refusal _ _ _ _ _ _ t _ e (search needs))
+
+returns-2 : tie.Need-returns-2 Inv-loop μ-loop
+returns-2 c = search (needs, executing)
+
+pub execute-spec : {M : Type 1} → statement M
+execute-spec =
+    tie.close
+    (tie.spec
+    Inv-loop
+    μ-loop
+    at-most-256-requires
+    loop-holds
+    cast-execute-at
+    execute-at-requires
+    enum-known-executed
+    refusal-of-requires
+    returns
+    keep-requires
+    mul-out
+    element-write-out
+    add-v
+    loop-less
+    loop-again
+    returns-2)
