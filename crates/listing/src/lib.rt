@@ -1,0 +1,3 @@
+// The lines of a replay's listing.
+mod decimal;
+mod put;
