@@ -11,7 +11,7 @@ use lib.Dec.{ltb}
 use lib.ListN.{length, set, length-append}
 use Rattle.laws.specs.Choice.{pick, by-test}
 use Rattle.rules.specs.Listing.{digits, decimal}
-use Rattle.listing.specs.Placed.{placed, Wrote, placed-none, placed-last}
+use Rattle.listing.specs.Placed.{placed, Wrote, placed-none, placed-last, wrote-length}
 
 -- the last k digits of n
 unfoldable pub lastDigits : ℕ → ℕ → List ℕ
@@ -54,6 +54,15 @@ more-than (suc f) (suc k) n h g =
     by-test (λ (l : List ℕ). suc k < length l) (ltb n 10)
     (λ t. absurd (omega (arith, ltb-true n 10 t, pow-succ' 10 k, one-le-pow k 10 (omega arith))))
     (λ t. rw length-append (let i = more-than f k (n / 10) (omega (arith, pow-succ' 10 f)) (omega (arith, pow-succ' 10 k)) in omega arith))
+
+-- after a space there is room for the digits of a number below 10 ^ k, where k + 1 places were there before it
+module _ (n at mid : ℕ) (x y : List ℕ) (w : Wrote (32 ∷ []) at x mid y) where
+  room-after : (k : ℕ) → n < 10 ^ suc k → at + suc (suc k) ≤ length x → mid + length (decimal n) ≤ length y
+  unfolding decimal
+  room-after k h r = omega (arith, at-most 10 k n h, wrote-length w)
+
+  pub number-room : n < 2 ^ 32 → at + 11 ≤ length x → mid + length (decimal n) ≤ length y
+  number-room h r = room-after 9 (omega arith) r
 
 -- ---- what a loop's turns ask that counts the digits by the powers of ten
 

@@ -62,7 +62,12 @@ wrote-then {a} {b} {at} {mid} {next} {x} p q =
     let l = wrote-length p in
     record { end = omega (arith, length-append a b); inside = omega arith; bytes = q .bytes ∙ rw (p .bytes, p .end) (placed-then at a b x (omega arith)) }
 
+-- for `search (needs, writes)` where a function returns what its writers wrote one after the other
 pub two-writes : {a b text : List ℕ} {at mid next : ℕ} {x y z : List ℕ} → Wrote a at x mid y → Wrote b mid y next z → text ≡ a ++ b → Wrote text at x next z
 two-writes p q e = rw e (wrote-then p q)
 
-pub ruleset writes = (two-writes)
+pub three-writes : {a b c text : List ℕ} {at i j next : ℕ} {w x y z : List ℕ} → Wrote a at w i x → Wrote b i x j y → Wrote c j y next z → text ≡ a ++ b ++ c
+    → Wrote text at w next z
+three-writes p q r e = rw e (wrote-then (wrote-then p q) r)
+
+pub ruleset writes = (two-writes, three-writes)

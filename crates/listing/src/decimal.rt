@@ -1,8 +1,10 @@
 // Numbers in decimal, with no leading zeros.
+use crate::put::put_byte;
 ghost use mathlib.Core.Path.{_≡_};
+ghost use mathlib.Core.List.{_++_};
 ghost use Prim.Native.Nat.{_+_, _≤_};
 ghost use lib.ListN.{length};
-ghost use Rattle.rules.specs.Listing.{decimal};
+ghost use Rattle.rules.specs.Listing.{decimal, number};
 ghost use Rattle.listing.specs.Placed.{Wrote};
 
 // How many digits n has.
@@ -34,4 +36,23 @@ pub(crate) fn put_decimal(out: &mut [u8], at: usize, n: u32) -> usize
         rest /= 10;
     }
     at + k
+}
+
+pub(crate) fn put_number(out: &mut [u8], at: usize, n: u32) -> usize
+    requires { ⌜ at + 11 ≤ length (now out) ⌝ }
+    ensures { λ r. ⌜ r ≤ at + 11 ⌝ }
+    ensures { λ r. ⌜ Wrote (number n) at (now (out .entry)) r (now (out .exit)) ⌝ }
+{
+    let at = put_byte(out, at, b' ');
+    put_decimal(out, at, n)
+}
+
+pub(crate) fn put_three(out: &mut [u8], at: usize, a: u32, b: u32, c: u32) -> usize
+    requires { ⌜ at + 33 ≤ length (now out) ⌝ }
+    ensures { λ r. ⌜ r ≤ at + 33 ⌝ }
+    ensures { λ r. ⌜ Wrote (number a ++ number b ++ number c) at (now (out .entry)) r (now (out .exit)) ⌝ }
+{
+    let at = put_number(out, at, a);
+    let at = put_number(out, at, b);
+    put_number(out, at, c)
 }

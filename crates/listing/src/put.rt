@@ -24,12 +24,3 @@ pub(crate) fn put_text(out: &mut [u8], at: usize, text: &[u8]) -> usize
     }
     at + i
 }
-
-pub(crate) fn max_text(out: &mut [u8], at: usize) -> usize
-    requires { ⌜ at + 8 ≤ length (now out) ⌝ }
-    ensures { λ r. ⌜ r ≤ at + 8 ⌝ }
-    ensures { λ r. ⌜ Wrote (32 ∷ 109 ∷ 97 ∷ 120 ∷ 10 ∷ []) at (now (out .entry)) r (now (out .exit)) ⌝ }
-{
-    let at = put_text(out, at, b" max");
-    put_byte(out, at, 10)
-}
