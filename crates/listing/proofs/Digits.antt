@@ -55,14 +55,18 @@ more-than (suc f) (suc k) n h g =
     (λ t. absurd (omega (arith, ltb-true n 10 t, pow-succ' 10 k, one-le-pow k 10 (omega arith))))
     (λ t. rw length-append (let i = more-than f k (n / 10) (omega (arith, pow-succ' 10 f)) (omega (arith, pow-succ' 10 k)) in omega arith))
 
--- after a space there is room for the digits of a number below 10 ^ k, where k + 1 places were there before it
-module _ (n at mid : ℕ) (x y : List ℕ) (w : Wrote (32 ∷ []) at x mid y) where
-  room-after : (k : ℕ) → n < 10 ^ suc k → at + suc (suc k) ≤ length x → mid + length (decimal n) ≤ length y
+-- room for the digits of a number below 10 ^ k, after a text that left k places
+module _ (n at mid : ℕ) (p x y : List ℕ) (w : Wrote p at x mid y) where
+  room-after : (k : ℕ) → n < 10 ^ suc k → at + length p + suc k ≤ length x → mid + length (decimal n) ≤ length y
   unfolding decimal
   room-after k h r = omega (arith, at-most 10 k n h, wrote-length w)
 
-  pub number-room : n < 2 ^ 32 → at + 11 ≤ length x → mid + length (decimal n) ≤ length y
-  number-room h r = room-after 9 (omega arith) r
+module _ (n at mid : ℕ) (x y : List ℕ) where
+  pub room-after-space : Wrote (32 ∷ []) at x mid y → n < 2 ^ 32 → at + 11 ≤ length x → mid + length (decimal n) ≤ length y
+  room-after-space w h r = room-after n at mid _ x y w 9 (omega arith) (omega arith)
+
+  pub room-after-minus : Wrote (32 ∷ 45 ∷ []) at x mid y → n < 2 ^ 32 → at + 12 ≤ length x → mid + length (decimal n) ≤ length y
+  room-after-minus w h r = room-after n at mid _ x y w 9 (omega arith) (omega arith)
 
 -- ---- what a loop's turns ask that counts the digits by the powers of ten
 

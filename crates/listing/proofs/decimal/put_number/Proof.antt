@@ -1,5 +1,5 @@
 use Rattle.listing.specs.Placed.{writes}
-use Rattle.listing.proofs.Digits.{number-room}
+use Rattle.listing.proofs.Digits.{room-after-space}
 use borrow.Author.Needs.{needs}
 use Rattle.listing.proofs.decimal.put_number.Statement.{statement}
 use Rattle.listing.proofs.decimal.put_number.Tie as tie
@@ -14,7 +14,7 @@ put-byte-requires c κs = search needs
 
 -- src/decimal.rt:47:5
 put-decimal-requires : tie.Need-put-decimal-requires
-put-decimal-requires c κs = search (needs, number-room)
+put-decimal-requires c κs = search (needs, room-after-space)
 
 -- src/decimal.rt:41:1
 same-length : tie.Need-same-length
