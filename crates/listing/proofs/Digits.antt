@@ -57,7 +57,7 @@ more-than (suc f) (suc k) n h g =
 
 -- room for the digits of a number below 10 ^ k, after a text that left k places
 module _ (n at mid : ℕ) (p x y : List ℕ) (w : Wrote p at x mid y) where
-  room-after : (k : ℕ) → n < 10 ^ suc k → at + length p + suc k ≤ length x → mid + length (decimal n) ≤ length y
+  pub room-after : (k : ℕ) → n < 10 ^ suc k → at + length p + suc k ≤ length x → mid + length (decimal n) ≤ length y
   unfolding decimal
   room-after k h r = omega (arith, at-most 10 k n h, wrote-length w)
 

@@ -50,6 +50,9 @@ placed-last at b a out h =
     rw (take-set-le at out n b (omega arith), set-split out n b h, drop-at (take n out) (b ∷ drop (suc n) out) n (length-take-le n out (omega arith)),
       length-append, ← add-assoc, add-one, ← append-assoc, append-snoc)
 
+pub wrote-nothing : (at : ℕ) (out : List ℕ) → at ≤ length out → Wrote [] at out at out
+wrote-nothing at out h = record { end = sym (add-zero at); inside = h; bytes = sym (placed-none at out) }
+
 pub wrote-one : (at b : ℕ) (out : List ℕ) → at < length out → Wrote (b ∷ []) at out (at + 1) (set out at b)
 wrote-one at b out h = record { end = refl; inside = omega arith; bytes = placed-one at b out h }
 

@@ -1,8 +1,8 @@
 use borrow.Author.Needs.{needs}
-use Rattle.listing.proofs.refusal.refusal_number.Statement.{statement}
-use Rattle.listing.proofs.refusal.refusal_number.Tie as tie
-use Rattle.listing.proofs.refusal.refusal_number.Reads as reads
-use Rattle.listing.proofs.refusal.refusal_number.Lts as lts
+use Rattle.listing.proofs.refusal_number.Statement.{statement}
+use Rattle.listing.proofs.refusal_number.Tie as tie
+use Rattle.listing.proofs.refusal_number.Reads as reads
+use Rattle.listing.proofs.refusal_number.Lts as lts
 
 -- src/refusal.rt:10:32
 enum-told : tie.Need-enum-told
