@@ -1,61 +1,27 @@
--- What each arm of a match writes is the text of the value matched.
+-- What an arm of a match writes is the text of the value matched.
 use Prim.Native.Nat.{ℕ}
 use mathlib.Core.Path.{_≡_}
 use mathlib.Core.List.{List, [], _∷_, _++_, append-assoc}
-use Rattle.rules.specs.Listing.{decimal, number, lengthText, nodeText, findingText, tallyText, refusalText, replyText}
-use Rattle.rules.specs.Run.{carried, found}
-use Rattle.rules.specs.declared.finding.Length.{Length}
-use Rattle.rules.specs.declared.finding.Length.the-variants.{NoLimit, Ahead, Behind}
-use Rattle.rules.specs.declared.finding.Node.{Node}
-use Rattle.rules.specs.declared.finding.Node.the-variants.{Absent, Number}
+use Rattle.rules.specs.Listing.{number, nodeText, findingText, tallyText, refusalText, replyText}
+use Rattle.rules.specs.Run.{found}
 use Rattle.rules.specs.declared.finding.Finding.{Finding}
-use Rattle.rules.specs.declared.finding.Finding.the-variants.{GrowLength, Conflict}
 use Rattle.rules.specs.declared.finding.Side.{Side}
 use Rattle.rules.specs.declared.finding.Tally.{Tally}
-use Rattle.rules.specs.declared.finding.WordAnswer.{WordAnswer}
-use Rattle.rules.specs.declared.finding.WordAnswer.the-variants as W
 use Rattle.rules.specs.declared.finding.Sought.{Sought}
 use Rattle.rules.specs.declared.finding.Sought.the-variants as S
 use Rattle.rules.specs.declared.refusal.Refusal.{Refusal}
-use Rattle.rules.specs.declared.index.NodeIndex.{NodeIndex}
 use Rattle.listing.specs.Placed.{Wrote, wrote-then, three-writes}
 use Rattle.listing.specs.Sides.{sidesText}
 
+-- f b is written where b is found to be v: by one writer, or by two
+module _ {B : Type 0} (f : B → List ℕ) (b v : B) (e : b ≡ v) (text : List ℕ) (at next : ℕ) (x z : List ℕ) where
+  pub arm : (a : List ℕ) → Wrote a at x next z → a ≡ f v → text ≡ f b → Wrote text at x next z
+  arm a p g t = rw (t, e, ← g) p
+
+  pub arm-of-two : (a c y : List ℕ) (mid : ℕ) → Wrote a at x mid y → Wrote c mid y next z → a ++ c ≡ f v → text ≡ f b → Wrote text at x next z
+  arm-of-two a c y mid p q g t = rw (t, e, ← g) (wrote-then p q)
+
 module _ {text : List ℕ} {at next : ℕ} {x z : List ℕ} where
-  pub no-limit : {by : Length} → by ≡ NoLimit → Wrote (32 ∷ 109 ∷ 97 ∷ 120 ∷ []) at x next z → text ≡ lengthText by → Wrote text at x next z
-  no-limit e p t = rw (t, e) p
-
-  pub ahead : {by : Length} {n : ℕ} → by ≡ Ahead n → Wrote (number n) at x next z → text ≡ lengthText by → Wrote text at x next z
-  ahead e p t = rw (t, e) p
-
-  pub behind : {by : Length} {n mid : ℕ} {y : List ℕ} → by ≡ Behind n → Wrote (32 ∷ 45 ∷ []) at x mid y → Wrote (decimal n) mid y next z → text ≡ lengthText by → Wrote text at x next z
-  behind e p q t = rw (t, e) (wrote-then p q)
-
-  pub absent : {node : Node} → node ≡ Absent → Wrote (32 ∷ 45 ∷ []) at x next z → text ≡ nodeText node → Wrote text at x next z
-  absent e p t = rw (t, e) p
-
-  pub numbered : {node : Node} {n : NodeIndex} → node ≡ Number n → Wrote (number (n .0)) at x next z → text ≡ nodeText node → Wrote text at x next z
-  numbered e p t = rw (t, e) p
-
-  pub grow-length : {f : Finding} {by : Length} {mid : ℕ} {y : List ℕ} → f ≡ GrowLength by → Wrote (32 ∷ 103 ∷ []) at x mid y → Wrote (lengthText by) mid y next z → text ≡ findingText f
-      → Wrote text at x next z
-  grow-length e p q t = rw (t, e) (wrote-then p q)
-
-  pub conflict : {f : Finding} {a b : Side} {mid : ℕ} {y : List ℕ} → f ≡ Conflict a b → Wrote (32 ∷ 99 ∷ []) at x mid y → Wrote (sidesText a b) mid y next z → text ≡ findingText f
-      → Wrote text at x next z
-  unfolding sidesText
-  conflict e p q t = rw (t, e) (wrote-then p q)
-
-  pub carried-finding : {a : WordAnswer} {f : Finding} {mid : ℕ} {y : List ℕ} → a ≡ W.Found f → Wrote (105 ∷ []) at x mid y → Wrote (findingText f) mid y next z
-      → text ≡ replyText (carried a) → Wrote text at x next z
-  carried-finding e p q t = rw (t, e) (wrote-then p q)
-
-  pub carried-reset : {a : WordAnswer} → a ≡ W.Reset → Wrote (122 ∷ []) at x next z → text ≡ replyText (carried a) → Wrote text at x next z
-  carried-reset e p t = rw (t, e) p
-
-  pub carried-refusal : {a : WordAnswer} {r : Refusal} → a ≡ W.Refused r → Wrote (refusalText r) at x next z → text ≡ replyText (carried a) → Wrote text at x next z
-  carried-refusal e p t = rw (t, e) p
-
   pub search-found : (left : ℕ) {a : Sought} {f : Finding} {n : Tally} {i j : ℕ} {v y : List ℕ} → a ≡ S.Found f n → Wrote (115 ∷ []) at x i v
       → Wrote (findingText f) i v j y → Wrote (tallyText n left) j y next z → text ≡ replyText (found a left) → Wrote text at x next z
   search-found left e p q r t = rw (t, e) (wrote-then (wrote-then p q) r)
@@ -74,5 +40,4 @@ module _ (a b : Side) {at i j next : ℕ} {w x y z : List ℕ} where
   unfolding sidesText
   sides p q r = three-writes p q r (simp append-assoc)
 
-pub ruleset arms = (no-limit, ahead, behind, absent, numbered, grow-length, conflict)
-pub ruleset replies = (carried-finding, carried-reset, carried-refusal, search-found, search-stopped)
+pub ruleset searches = (search-found, search-stopped)

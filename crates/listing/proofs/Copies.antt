@@ -1,17 +1,16 @@
 -- A text copied from its front, byte by byte: each turn places one byte more of it.
 use Prim.Native.Nat.{ℕ, _+_, _≤_, _<_}
-use mathlib.Core.Path.{refl, sym}
 use mathlib.Core.List.{List}
-use native.Mathlib.Nat.{add-assoc}
+use native.Mathlib.Nat.{add-zero, add-assoc}
 use native.Mathlib.Numerals.{add-one}
 use native.Mathlib.Omega.{arith}
 use lib.ListN.{length, take, getD, set}
 use lib.Seq.{take-suc, take-all}
-use Rattle.listing.specs.Placed.{Wrote, placed-none, wrote-one, wrote-then, wrote-length}
+use Rattle.listing.specs.Placed.{Wrote, wrote-nothing, wrote-one, wrote-then, wrote-length}
 
 module _ (text : List ℕ) (at : ℕ) (before : List ℕ) (room : at + length text ≤ length before) where
   pub copy-none : Wrote (take 0 text) at before (at + 0) before
-  copy-none = record { end = refl; inside = omega arith; bytes = sym (placed-none at before) }
+  copy-none = rw (add-zero at) (wrote-nothing at before (omega arith))
 
   pub copy-room : {i : ℕ} {out : List ℕ} → Wrote (take i text) at before (at + i) out → i < length text → at + i < length out
   copy-room w h = omega (arith, wrote-length w)

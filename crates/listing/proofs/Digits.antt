@@ -1,7 +1,6 @@
 -- How many digits a number has, and its digits from the last to the first.
 use Prim.Native.Nat.{ℕ, zero, suc, _+_, _*_, _-_, _/_, _%_, _^_, _≤_, _<_}
 use mathlib.Core.Path.{_≡_, refl, sym, ap, _∙_}
-use mathlib.Core.Bool.{true, false}
 use mathlib.Core.List.{List, [], _∷_, _++_}
 use native.Mathlib.Nat.{pow-suc, pow-succ', one-le-pow}
 use native.Mathlib.Numerals.{add-one}
@@ -9,7 +8,7 @@ use native.Mathlib.Omega.{arith}
 use borrow.Author.Tests.{ltb-true, ltb-false}
 use lib.Dec.{ltb}
 use lib.ListN.{length, set, length-append}
-use Rattle.laws.specs.Choice.{pick, by-test}
+use Rattle.laws.specs.Choice.{by-test}
 use Rattle.rules.specs.Listing.{digits, decimal}
 use Rattle.listing.specs.Placed.{placed, Wrote, placed-none, placed-last, wrote-length}
 

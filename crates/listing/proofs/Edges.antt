@@ -1,5 +1,5 @@
 -- The numbers of the stalled edges, one edge after the other.
-use Prim.Native.Nat.{ℕ, zero, suc, _+_, _*_, _≤_, _<_}
+use Prim.Native.Nat.{ℕ, zero, suc, _+_, _≤_, _<_}
 use mathlib.Core.Path.{_≡_, refl, sym, ap, _∙_}
 use mathlib.Core.Bool.{Bool, true, false, not}
 use mathlib.Core.List.{List, [], _∷_, _++_, append-nil, append-assoc}
@@ -10,7 +10,7 @@ use lib.ListN.{length, take, getD}
 use lib.Seq.{take-all}
 use Rattle.rules.specs.Listing.{decimal, number, numbers}
 use Rattle.rules.specs.Pairs.{raisedFrom}
-use Rattle.listing.specs.Placed.{Wrote, placed-none, wrote-then, wrote-nothing}
+use Rattle.listing.specs.Placed.{Wrote, wrote-then, wrote-nothing}
 use Rattle.listing.specs.Pairs.{edgeText}
 use Rattle.listing.proofs.Digits.{at-most, room-after}
 

@@ -47,8 +47,16 @@ pub placed-last : (at b : ℕ) (a out : List ℕ) → at + length a < length out
 unfolding placed
 placed-last at b a out h =
     let n = at + length a in
-    rw (take-set-le at out n b (omega arith), set-split out n b h, drop-at (take n out) (b ∷ drop (suc n) out) n (length-take-le n out (omega arith)),
-      length-append, ← add-assoc, add-one, ← append-assoc, append-snoc)
+    rw (
+      take-set-le at out n b (omega arith),
+      set-split out n b h,
+      drop-at (take n out) (b ∷ drop (suc n) out) n (length-take-le n out (omega arith)),
+      length-append,
+      ← add-assoc,
+      add-one,
+      ← append-assoc,
+      append-snoc,
+    )
 
 pub wrote-nothing : (at : ℕ) (out : List ℕ) → at ≤ length out → Wrote [] at out at out
 wrote-nothing at out h = record { end = sym (add-zero at); inside = h; bytes = sym (placed-none at out) }

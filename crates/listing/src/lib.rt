@@ -7,7 +7,7 @@ mod put;
 mod reply;
 
 use crate::pairs::put_pairs;
-use crate::put::put_byte;
+use crate::put::put_end;
 use crate::reply::put_bad;
 use crate::reply::put_head;
 use crate::reply::put_refusal;
@@ -17,7 +17,7 @@ use rules::finding::Sought;
 use rules::finding::WordAnswer;
 use rules::refusal::Refusal;
 ghost use mathlib.Core.Path.{_≡_};
-ghost use Prim.Native.Nat.{_-_};
+ghost use Prim.Native.Nat.{_+_, _-_, _≤_};
 ghost use lib.ListN.{length};
 ghost use Rattle.rules.specs.Listing.{line, firstLine, refusalText, replyText};
 ghost use Rattle.rules.specs.Run.{carried, found};
@@ -56,6 +56,7 @@ pub fn refusal_number(refusal: Refusal) -> u8
 
 // specs/Lines.antt says why.
 const LONGEST: usize = 103;
+
 const LONGEST_PAIRS: usize = 5122;
 
 // How much of a buffer lies behind a position.
@@ -68,67 +69,73 @@ fn room(size: usize, at: usize) -> usize
 pub fn word_line(out: &mut [u8], at: usize, answer: WordAnswer) -> usize
     ensures { λ r. ⌜ r ≡ lineEnd longest at (line (replyText (carried answer))) (now (out .entry)) ⌝ }
     ensures { λ r. ⌜ now (out .exit) ≡ lineIn longest at (line (replyText (carried answer))) (now (out .entry)) ⌝ }
+    ensures { λ r. ⌜ r ≤ at + longest ⌝ }
 {
     if room(out.len(), at) < LONGEST {
         return at;
     }
     let at = put_word(out, at, answer);
-    put_byte(out, at, b'\n')
+    put_end(out, at)
 }
 
 pub fn search_line(out: &mut [u8], at: usize, answer: Sought, left: u32) -> usize
     ensures { λ r. ⌜ r ≡ lineEnd longest at (line (replyText (found answer left))) (now (out .entry)) ⌝ }
     ensures { λ r. ⌜ now (out .exit) ≡ lineIn longest at (line (replyText (found answer left))) (now (out .entry)) ⌝ }
+    ensures { λ r. ⌜ r ≤ at + longest ⌝ }
 {
     if room(out.len(), at) < LONGEST {
         return at;
     }
     let at = put_search(out, at, answer, left);
-    put_byte(out, at, b'\n')
+    put_end(out, at)
 }
 
 pub fn pairs_line(out: &mut [u8], at: usize, stalled: &[bool; 1024]) -> usize
     ensures { λ r. ⌜ r ≡ lineEnd longestPairs at (line (pairsText (now (stalled .entry)))) (now (out .entry)) ⌝ }
     ensures { λ r. ⌜ now (out .exit) ≡ lineIn longestPairs at (line (pairsText (now (stalled .entry)))) (now (out .entry)) ⌝ }
+    ensures { λ r. ⌜ r ≤ at + longestPairs ⌝ }
 {
     if room(out.len(), at) < LONGEST_PAIRS {
         return at;
     }
     let at = put_pairs(out, at, stalled);
-    put_byte(out, at, b'\n')
+    put_end(out, at)
 }
 
 pub fn first_line(out: &mut [u8], at: usize, v: u32, e: u32, u: u32) -> usize
     ensures { λ r. ⌜ r ≡ lineEnd longest at (firstLine v e u) (now (out .entry)) ⌝ }
     ensures { λ r. ⌜ now (out .exit) ≡ lineIn longest at (firstLine v e u) (now (out .entry)) ⌝ }
+    ensures { λ r. ⌜ r ≤ at + longest ⌝ }
 {
     if room(out.len(), at) < LONGEST {
         return at;
     }
     let at = put_head(out, at, v, e, u);
-    put_byte(out, at, b'\n')
+    put_end(out, at)
 }
 
 // The one line of a refused image.
 pub fn bad_line(out: &mut [u8], at: usize, refusal: Refusal) -> usize
     ensures { λ r. ⌜ r ≡ lineEnd longest at (line (badText refusal)) (now (out .entry)) ⌝ }
     ensures { λ r. ⌜ now (out .exit) ≡ lineIn longest at (line (badText refusal)) (now (out .entry)) ⌝ }
+    ensures { λ r. ⌜ r ≤ at + longest ⌝ }
 {
     if room(out.len(), at) < LONGEST {
         return at;
     }
     let at = put_bad(out, at, refusal);
-    put_byte(out, at, b'\n')
+    put_end(out, at)
 }
 
 // The last line of a session with a record cut short or of another kind.
 pub fn record_line(out: &mut [u8], at: usize) -> usize
     ensures { λ r. ⌜ r ≡ lineEnd longest at (line (refusalText SessionRecord)) (now (out .entry)) ⌝ }
     ensures { λ r. ⌜ now (out .exit) ≡ lineIn longest at (line (refusalText SessionRecord)) (now (out .entry)) ⌝ }
+    ensures { λ r. ⌜ r ≤ at + longest ⌝ }
 {
     if room(out.len(), at) < LONGEST {
         return at;
     }
     let at = put_refusal(out, at, Refusal::SessionRecord);
-    put_byte(out, at, b'\n')
+    put_end(out, at)
 }

@@ -1,5 +1,4 @@
 // Bytes put into a lent buffer. Each writer returns the position after what it wrote.
-ghost use mathlib.Core.Path.{_≡_};
 ghost use mathlib.Core.List.{[], _∷_};
 ghost use Prim.Native.Nat.{_+_, _≤_, _<_};
 ghost use lib.ListN.{length};
@@ -11,6 +10,14 @@ pub(crate) fn put_byte(out: &mut [u8], at: usize, byte: u8) -> usize
 {
     out[at] = byte;
     at + 1
+}
+
+// A line's end.
+pub(crate) fn put_end(out: &mut [u8], at: usize) -> usize
+    requires { ⌜ at < length (now out) ⌝ }
+    ensures { λ r. ⌜ Wrote (10 ∷ []) at (now (out .entry)) r (now (out .exit)) ⌝ }
+{
+    put_byte(out, at, b'\n')
 }
 
 pub(crate) fn put_text(out: &mut [u8], at: usize, text: &[u8]) -> usize

@@ -9,7 +9,6 @@ use rules::finding::Sought;
 use rules::finding::Tally;
 use rules::finding::WordAnswer;
 use rules::refusal::Refusal;
-ghost use mathlib.Core.List.{_∷_, _++_};
 ghost use Prim.Native.Nat.{_+_, _≤_};
 ghost use lib.ListN.{length};
 ghost use Rattle.rules.specs.Listing.{number, refusalText, replyText, tallyText};

@@ -1,10 +1,11 @@
-use Rattle.listing.proofs.Digits.{lastDigits, spells}
-use Rattle.listing.specs.Placed.{placed}
-use Rattle.rules.specs.Listing.{decimal}
-use lib.ListN.{length}
-use mathlib.Core.Path.{_≡_}
+-- The digits that are left, placed at the position, make the number whole: at first they are all of it, at the end none.
 use Prim.Native.Nat.{_≤_}
+use mathlib.Core.Path.{_≡_}
 use borrow.Author.Needs.{needs}
+use lib.ListN.{length}
+use Rattle.rules.specs.Listing.{decimal}
+use Rattle.listing.specs.Placed.{placed}
+use Rattle.listing.proofs.Digits.{lastDigits, spells}
 use Rattle.listing.proofs.decimal.put_decimal.Statement.{statement}
 use Rattle.listing.proofs.decimal.put_decimal.Tie as tie
 

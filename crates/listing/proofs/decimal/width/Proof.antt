@@ -1,9 +1,10 @@
-use Rattle.listing.proofs.Digits.{counts}
-use Rattle.rules.specs.Listing.{decimal}
-use lib.ListN.{length}
-use mathlib.Core.Path.{_≡_}
+-- The limit is the k-th power of ten, so the loop ends at the first power above n, whose exponent is the number of digits.
 use Prim.Native.Nat.{_+_, _-_, _^_, _≤_, _<_}
+use mathlib.Core.Path.{_≡_}
 use borrow.Author.Needs.{needs}
+use lib.ListN.{length}
+use Rattle.rules.specs.Listing.{decimal}
+use Rattle.listing.proofs.Digits.{counts}
 use Rattle.listing.proofs.decimal.width.Statement.{statement}
 use Rattle.listing.proofs.decimal.width.Tie as tie
 

@@ -1,9 +1,10 @@
-use Rattle.listing.proofs.Edges.{edgesBelow, edges}
-use Rattle.listing.specs.Placed.{Wrote}
-use lib.ListN.{length}
-use mathlib.Core.Path.{_≡_}
+-- Turn by turn the stalled edges below e are written, each in at most five bytes.
 use Prim.Native.Nat.{_+_, _-_, _*_, _≤_}
+use mathlib.Core.Path.{_≡_}
 use borrow.Author.Needs.{needs}
+use lib.ListN.{length}
+use Rattle.listing.specs.Placed.{Wrote}
+use Rattle.listing.proofs.Edges.{edgesBelow, edges}
 use Rattle.listing.proofs.pairs.put_edges.Statement.{statement}
 use Rattle.listing.proofs.pairs.put_edges.Tie as tie
 

@@ -1,8 +1,9 @@
-use Rattle.listing.proofs.Copies.{copies}
-use Rattle.listing.specs.Placed.{Wrote, wrote-length}
-use lib.ListN.{length, take}
+-- Turn by turn one byte more of the text stands in its place.
 use Prim.Native.Nat.{_+_, _≤_, _-_}
 use borrow.Author.Needs.{needs}
+use lib.ListN.{length, take}
+use Rattle.listing.specs.Placed.{Wrote, wrote-length}
+use Rattle.listing.proofs.Copies.{copies}
 use Rattle.listing.proofs.put.put_text.Statement.{statement}
 use Rattle.listing.proofs.put.put_text.Tie as tie
 
