@@ -7,7 +7,6 @@ use rules::finding::Length;
 use rules::registers::PropagatingPeer;
 use rules::registers::VertexRegisters;
 use rules::registers::view;
-
 ghost use mathlib.Core.Path.{_≡_};
 ghost use Prim.Native.Nat.{min};
 ghost use Rattle.laws.specs.Table.{paint};
@@ -97,7 +96,9 @@ fn shadow_at<'p>(
 {
     let updated = at(registers, v);
     let peer = yielding_peer(places, degrees, edges, fetched, executed, v, updated);
-    updated.shadow(peer, waits(vertices, v, updated), stalled[v as usize]).keep()
+    updated
+        .shadow(peer, waits(vertices, v, updated), stalled[v as usize])
+        .keep()
 }
 
 // Stage 6: what edges see of the first `nv` vertices, into a lent table. registers are those after stage 5.
@@ -118,7 +119,17 @@ pub fn shadow<'p>(
     let n = at_most_256(nv);
     let mut v: usize = 0;
     while v < n {
-        out[v] = shadow_at(vertices, places, degrees, edges, fetched, executed, registers, stalled, v as u8);
+        out[v] = shadow_at(
+            vertices,
+            places,
+            degrees,
+            edges,
+            fetched,
+            executed,
+            registers,
+            stalled,
+            v as u8,
+        );
         v += 1;
     }
 }

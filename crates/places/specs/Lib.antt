@@ -1,3 +1,4 @@
 pub mod Places
 pub mod Put
 pub mod Tie
+pub mod Wired

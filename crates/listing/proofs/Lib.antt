@@ -1,0 +1,5 @@
+pub mod Copies
+pub mod Digits
+pub mod Arms
+pub mod Edges
+pub mod Whole

@@ -1,0 +1,25 @@
+-- A line with its end where there is room, and nothing where there is none.
+use Prim.Native.Nat.{ℕ, _-_, _≤_, _<_}
+use mathlib.Core.Path.{_≡_, sym, _∙_}
+use mathlib.Core.List.{List, [], _∷_}
+use native.Mathlib.Omega.{arith}
+use lib.ListN.{length}
+use Rattle.rules.specs.Listing.{line}
+use Rattle.listing.specs.Placed.{Wrote, wrote-then}
+use Rattle.listing.specs.Lines.{lineEnd, lineIn, end-with-room, in-with-room, end-without-room, in-without-room}
+
+module _ (most at left : ℕ) (text x : List ℕ) (e : left ≡ length x - at) where
+  pub same-end : left < most → at ≡ lineEnd most at text x
+  same-end h = sym (end-without-room most at text x (omega arith))
+
+  pub same-buffer : left < most → x ≡ lineIn most at text x
+  same-buffer h = sym (in-without-room most at text x (omega arith))
+
+  module _ {mid next : ℕ} {y z : List ℕ} (p : Wrote text at x mid y) (q : Wrote (10 ∷ []) mid y next z) where
+    pub line-end : most ≤ left → next ≡ lineEnd most at (line text) x
+    line-end h = wrote-then p q .end ∙ sym (end-with-room most at (line text) x (omega arith))
+
+    pub line-buffer : most ≤ left → z ≡ lineIn most at (line text) x
+    line-buffer h = wrote-then p q .bytes ∙ sym (in-with-room most at (line text) x (omega arith))
+
+pub ruleset whole = (same-end, same-buffer, line-end, line-buffer)

@@ -1,0 +1,54 @@
+-- Turn by turn the stalled edges below e are written, each in at most five bytes.
+use Prim.Native.Nat.{_+_, _-_, _*_, _≤_}
+use mathlib.Core.Path.{_≡_}
+use borrow.Author.Needs.{needs}
+use lib.ListN.{length}
+use Rattle.listing.specs.Placed.{Wrote}
+use Rattle.listing.proofs.Edges.{edgesBelow, edges}
+use Rattle.listing.proofs.pairs.put_edges.Statement.{statement}
+use Rattle.listing.proofs.pairs.put_edges.Tie as tie
+
+abbrev Inv-loop : tie.InvT-loop
+Inv-loop out₀ at stalled next₀ e₀ out next e = (e ≤ length stalled) × (next ≤ at + 5 * e) × (length out ≡ length out₀) × Wrote (edgesBelow stalled e) at out₀ next out
+
+abbrev μ-loop : tie.MeasureT-loop
+μ-loop out₀ at stalled next₀ e₀ out next e = length stalled - e
+
+loop-holds : tie.Need-loop-holds Inv-loop μ-loop
+loop-holds c = search (needs, edges)
+
+shared-slice-read-put-edge : tie.Need-shared-slice-read-put-edge Inv-loop μ-loop
+shared-slice-read-put-edge c = search (needs, edges)
+
+put-edge-requires : tie.Need-put-edge-requires Inv-loop μ-loop
+put-edge-requires c κs = search (needs, edges)
+
+add-e : tie.Need-add-e Inv-loop μ-loop
+add-e c = search (needs, edges)
+
+loop-less : tie.Need-loop-less Inv-loop μ-loop
+loop-less c = search (needs, edges)
+
+loop-again : tie.Need-loop-again Inv-loop μ-loop
+loop-again c = search (needs, edges)
+
+same-length : tie.Need-same-length Inv-loop μ-loop
+same-length c = search (needs, edges)
+
+returns : tie.Need-returns Inv-loop μ-loop
+returns c = search (needs, edges)
+
+pub put-edges-spec : {M : Type 1} → statement M
+put-edges-spec =
+    tie.close
+    (tie.spec
+    Inv-loop
+    μ-loop
+    loop-holds
+    shared-slice-read-put-edge
+    put-edge-requires
+    add-e
+    loop-less
+    loop-again
+    same-length
+    returns)
