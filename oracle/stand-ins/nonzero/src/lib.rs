@@ -1,0 +1,8 @@
+//! Stand-in: the one macro.
+
+#[macro_export]
+macro_rules! nonzero {
+    ($value:expr) => {
+        std::num::NonZeroUsize::new($value).unwrap()
+    };
+}
