@@ -10,11 +10,11 @@ use Rattle.rules.specs.Graph.{unitOf}
 use Rattle.rules.specs.Units.{raise, edgeOf, holds, stalls, stalledVertices, stalledEdges}
 use Rattle.rules.specs.declared.graph.OffloadingType.{OffloadingType}
 
--- the flags of the edges: "Each holding unit stalls its edge". Those of the vertices are `stalls` of document 01's
+-- "Each holding unit stalls its edge"; which vertices it stalls `stalls` says
 unfoldable pub stallsEdge : OffloadingType → List Bool → List Bool
 stallsEdge u flags = raise flags (edgeOf u)
 
--- what f does, by the units that hold
+-- what f does to the flags, where a unit holds
 module _ (es rs fs : List ℕ) (ne : ℕ) (f : OffloadingType → List Bool → List Bool) where
   unfoldable pub byUnit : OffloadingType → List Bool → List Bool
   byUnit u flags = pick (holds es rs fs ne u) (f u flags) flags
@@ -23,7 +23,7 @@ module _ (es rs fs : List ℕ) (ne : ℕ) (f : OffloadingType → List Bool → 
   unfoldable pub byUnits : List ℕ → List Bool → ℕ → List Bool
   byUnits us flags n = upTo (λ k t. byUnit (unitOf (getD us k 0)) t) flags n
 
--- from blank flags this is document 01's
+-- from blank flags this is what rules/specs/Units.antt says
 module _ (es rs fs : List ℕ) (ne : ℕ) (us : List ℕ) (nu : ℕ) where
   pub blank-vertices : byUnits es rs fs ne (stalls es rs fs ne) us (replicate 256 false) nu ≡ stalledVertices es rs fs ne us nu
   unfolding byUnits byUnit stalledVertices

@@ -12,7 +12,7 @@ ghost use Rattle.rules.specs.Registers as Registers;
 ghost use Rattle.comb_offloading.specs.Vertex.{eagerBy};
 
 // "edge tight, named end virtual, other end a growing defect"
-pub fn meets_virtual<'a>(
+pub(crate) fn meets_virtual<'a>(
     edge: EdgeIndex,
     vertex: VertexIndex,
     regular: VertexIndex,

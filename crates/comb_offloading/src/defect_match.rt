@@ -12,7 +12,7 @@ ghost use Rattle.rules.specs.Graph.{leftOf, rightOf};
 ghost use Rattle.rules.specs.Units as Units;
 ghost use Rattle.places.specs.Wired.{Wired};
 
-pub fn defect_match<'a>(
+pub(crate) fn defect_match<'a>(
     edge: EdgeIndex,
     edges: &'a [u32; 1024],
     fetched: &'a [u32; 1024],
@@ -41,7 +41,7 @@ pub fn defect_match<'a>(
     is_unique_tight(right, edges, fetched, registers, places, degrees, ne)
 }
 
-pub fn stall_ends(edge: EdgeIndex, edges: &[u32; 1024], vertices: &mut [bool; 256])
+pub(crate) fn stall_ends(edge: EdgeIndex, edges: &[u32; 1024], vertices: &mut [bool; 256])
     requires { ⌜ edge .0 < 1_024 ⌝ }
     ensures { λ r. ⌜ now (vertices .exit) ≡ Units.raise (Units.raise (now (vertices .entry)) (leftOf (now (edges .entry)) (edge .0))) (rightOf (now (edges .entry)) (edge .0)) ⌝ }
 {

@@ -10,14 +10,14 @@ ghost use Prim.Native.Nat.{_<_};
 ghost use Rattle.rules.specs.Fetch.{tight};
 ghost use Rattle.rules.specs.Graph.{leftOf, rightOf, farEnd};
 
-pub fn left_of(edge: EdgeIndex, edges: &[u32; 1024]) -> VertexIndex
+pub(crate) fn left_of(edge: EdgeIndex, edges: &[u32; 1024]) -> VertexIndex
     requires { ⌜ edge .0 < 1_024 ⌝ }
     ensures { λ r. ⌜ (r .0 ≡ leftOf (now (edges .entry)) (edge .0)) × (r .0 < 256) ⌝ }
 {
     left(edges[edge.0 as usize])
 }
 
-pub fn right_of(edge: EdgeIndex, edges: &[u32; 1024]) -> VertexIndex
+pub(crate) fn right_of(edge: EdgeIndex, edges: &[u32; 1024]) -> VertexIndex
     requires { ⌜ edge .0 < 1_024 ⌝ }
     ensures { λ r. ⌜ (r .0 ≡ rightOf (now (edges .entry)) (edge .0)) × (r .0 < 256) ⌝ }
 {
@@ -25,14 +25,14 @@ pub fn right_of(edge: EdgeIndex, edges: &[u32; 1024]) -> VertexIndex
 }
 
 // The end that is not the vertex.
-pub fn peer_of(edge: EdgeIndex, vertex: VertexIndex, edges: &[u32; 1024]) -> VertexIndex
+pub(crate) fn peer_of(edge: EdgeIndex, vertex: VertexIndex, edges: &[u32; 1024]) -> VertexIndex
     requires { ⌜ edge .0 < 1_024 ⌝ }
     ensures { λ r. ⌜ (r .0 ≡ farEnd (now (edges .entry)) (vertex .0) (edge .0)) × (r .0 < 256) ⌝ }
 {
     far_end(edges[edge.0 as usize], vertex)
 }
 
-pub fn is_tight(
+pub(crate) fn is_tight(
     edge: EdgeIndex,
     edges: &[u32; 1024],
     fetched: &[u32; 1024],

@@ -11,7 +11,7 @@ ghost use Rattle.rules.specs.Graph.{farEnd};
 ghost use Rattle.rules.specs.Units as Units;
 ghost use Rattle.places.specs.Wired.{Wired};
 
-pub fn fusion_match<'a>(
+pub(crate) fn fusion_match<'a>(
     edge: EdgeIndex,
     conditioned: VertexIndex,
     edges: &'a [u32; 1024],
@@ -31,7 +31,7 @@ pub fn fusion_match<'a>(
     is_isolated(regular, edges, fetched, registers, places, degrees, ne)
 }
 
-pub fn stall_peer(
+pub(crate) fn stall_peer(
     edge: EdgeIndex,
     conditioned: VertexIndex,
     edges: &[u32; 1024],

@@ -85,6 +85,7 @@ fn stall<'a>(
     }
 }
 
+// One unit: where it holds, the flags of the vertices that it stalls and of its edge are raised.
 fn offload_unit<'a>(
     unit: OffloadingType,
     edges: &'a [u32; 1024],
@@ -123,7 +124,7 @@ fn at_most_2048(n: usize) -> usize
     if n < 2_048 { n } else { 2_048 }
 }
 
-// The first nu units, one by one. The places are those of the first ne edges, which are all in use.
+// The first nu units, one by one. The places and degrees are those of the ne edges in use.
 pub fn offload<'a>(
     units: &'a [u32; 2048],
     nu: usize,

@@ -12,14 +12,14 @@ fn edge_at(place: u32) -> EdgeIndex
     EdgeIndex((place % 1_024) as u16)
 }
 
-pub fn far_at(place: u32) -> VertexIndex
+pub(crate) fn far_at(place: u32) -> VertexIndex
     ensures { λ r. ⌜ r .0 ≡ farIn place ⌝ }
 {
     VertexIndex((place / 1_024 % 256) as u16)
 }
 
 // Other by number: a parallel edge is an other one.
-pub fn is_tight_other<'a>(
+pub(crate) fn is_tight_other<'a>(
     place: u32,
     edge: EdgeIndex,
     edges: &'a [u32; 1024],

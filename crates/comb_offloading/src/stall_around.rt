@@ -27,7 +27,7 @@ fn stall_far<'a>(
     raise(far_at(place), vertices);
 }
 
-pub fn stall_around<'a>(
+pub(crate) fn stall_around<'a>(
     edge: EdgeIndex,
     regular: VertexIndex,
     edges: &'a [u32; 1024],

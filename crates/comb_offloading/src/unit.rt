@@ -7,7 +7,7 @@ ghost use Rattle.rules.specs.Graph.{unitOf};
 ghost use Rattle.rules.specs.Units.{edgeOf};
 
 // The edge in 10 bits, the vertex in 8, then the kind.
-pub fn unit_of(word: u32) -> OffloadingType
+pub(crate) fn unit_of(word: u32) -> OffloadingType
     ensures { λ r. ⌜ r ≡ unitOf word ⌝ }
 {
     let edge = EdgeIndex((word % 1_024) as u16);
@@ -22,7 +22,7 @@ pub fn unit_of(word: u32) -> OffloadingType
     OffloadingType::FusionMatch { edge, vertex }
 }
 
-pub fn edge_of(unit: OffloadingType) -> EdgeIndex
+pub(crate) fn edge_of(unit: OffloadingType) -> EdgeIndex
     ensures { λ r. ⌜ r .0 ≡ edgeOf unit ⌝ }
 {
     match unit {

@@ -19,14 +19,14 @@ fn at(vertex: VertexIndex, registers: &[u64; 256]) -> VertexRegisters
     view(registers[vertex.0 as usize])
 }
 
-pub fn is_virtual(vertex: VertexIndex, registers: &[u64; 256]) -> bool
+pub(crate) fn is_virtual(vertex: VertexIndex, registers: &[u64; 256]) -> bool
     requires { ⌜ vertex .0 < 256 ⌝ }
     ensures { λ r. ⌜ r ≡ Registers.at (now (registers .entry)) (vertex .0) .«is_virtual» ⌝ }
 {
     at(vertex, registers).is_virtual
 }
 
-pub fn is_defect(vertex: VertexIndex, registers: &[u64; 256]) -> bool
+pub(crate) fn is_defect(vertex: VertexIndex, registers: &[u64; 256]) -> bool
     requires { ⌜ vertex .0 < 256 ⌝ }
     ensures { λ r. ⌜ r ≡ Registers.at (now (registers .entry)) (vertex .0) .«is_defect» ⌝ }
 {
@@ -34,7 +34,7 @@ pub fn is_defect(vertex: VertexIndex, registers: &[u64; 256]) -> bool
 }
 
 // A growing defect.
-pub fn is_eager(vertex: VertexIndex, registers: &[u64; 256]) -> bool
+pub(crate) fn is_eager(vertex: VertexIndex, registers: &[u64; 256]) -> bool
     requires { ⌜ vertex .0 < 256 ⌝ }
     ensures { λ r. ⌜ r ≡ eagerBy (now (registers .entry)) (vertex .0) ⌝ }
 {
@@ -47,7 +47,7 @@ pub fn is_eager(vertex: VertexIndex, registers: &[u64; 256]) -> bool
 }
 
 // "tight count 1"
-pub fn is_unique_tight<'a>(
+pub(crate) fn is_unique_tight<'a>(
     vertex: VertexIndex,
     edges: &'a [u32; 1024],
     fetched: &'a [u32; 1024],
@@ -63,7 +63,7 @@ pub fn is_unique_tight<'a>(
 }
 
 // "tight count 0"
-pub fn is_isolated<'a>(
+pub(crate) fn is_isolated<'a>(
     vertex: VertexIndex,
     edges: &'a [u32; 1024],
     fetched: &'a [u32; 1024],
@@ -78,7 +78,7 @@ pub fn is_isolated<'a>(
     tight_count(vertex.0 as u8, places, degrees, edges, fetched, registers) == 0
 }
 
-pub fn raise(vertex: VertexIndex, vertices: &mut [bool; 256])
+pub(crate) fn raise(vertex: VertexIndex, vertices: &mut [bool; 256])
     requires { ⌜ vertex .0 < 256 ⌝ }
     ensures { λ r. ⌜ now (vertices .exit) ≡ Units.raise (now (vertices .entry)) (vertex .0) ⌝ }
 {

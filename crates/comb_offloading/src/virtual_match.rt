@@ -73,7 +73,7 @@ fn all_permit<'a>(
     true
 }
 
-pub fn virtual_match<'a>(
+pub(crate) fn virtual_match<'a>(
     edge: EdgeIndex,
     vertex: VertexIndex,
     edges: &'a [u32; 1024],
