@@ -1,7 +1,8 @@
 #!/usr/bin/env python3
 """Writes crates/words/stdin, and crates/words/stdout as the program must write it. Run from the repository's top.
 
-What is expected is worked out here from document 01, "Words", by bit operations alone: nothing of our code is read or run."""
+What is expected is worked out here from document 01, "Words", by bit operations alone, and for the words of
+oracle/sample/words.txt it is what the Rust packed: nothing of our code is read or run."""
 
 SPEEDS = ["Stay", "Grow", "Shrink"]
 
@@ -55,6 +56,15 @@ def words():
         yield from (word | 1 << places[0], word | 1 << places[-1], word | sum(1 << place for place in places))
 
 
+def rust_words():
+    """The words that the Rust's packers give, each with the name and the fields that they were given."""
+    with open("oracle/sample/words.txt") as packed_words:
+        for name, *fields, word in map(str.split, packed_words):
+            if name == "SetSpeed":
+                fields[1] = SPEEDS[int(fields[1])]
+            yield word, name, fields
+
+
 def line(*parts):
     return " ".join(str(part) for part in parts) + "\n"
 
@@ -63,6 +73,9 @@ asked, told = "", ""
 for word in words():
     asked += line("w", word)
     told += line("word", word, *says(word), packed(*says(word))) if says(word) else line("word", word, "r 12")
+for word, name, fields in rust_words():
+    asked += line("w", word)
+    told += line("word", word, name, *fields, word)
 for n in (0, 1, 32_766, 32_767, 32_768, 65_535):
     asked += line("i", n)
     for instruction in (

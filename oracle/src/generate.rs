@@ -10,6 +10,8 @@ use crate::random::Random;
 use crate::replay::{Decoder, Finding, Node, MOST_GROWN, UNKNOWN};
 use crate::words::{Speed, Word};
 
+pub mod decoding;
+
 /// No search of a generated session takes more growth steps.
 pub const PATIENCE: u64 = 400;
 

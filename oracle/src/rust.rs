@@ -18,6 +18,8 @@ use micro_blossom_nostd::util::{CompactGrowState, CompactWeight, OptionCompactNo
 use std::any::Any;
 use std::panic::{catch_unwind, set_hook, AssertUnwindSafe};
 
+pub mod plain;
+
 /// A part of each assertion's message, and its refusal.
 const ASSERTIONS: [(&str, u8); 3] = [
     ("has negative grown value", 14),

@@ -4,9 +4,9 @@ use Prim.Native.Nat.{ℕ, _+_, _*_, _/_, _%_}
 use mathlib.Core.Bool.{Bool, not}
 use mathlib.Core.List.{List}
 use lib.Dec.{leb, ltb, eqb}
-use Rattle.laws.specs.Choice.{_and_, pick}
-use Rattle.rules.specs.Registers.{at}
-use Rattle.rules.specs.Respond.{less, respond}
+use Rattle.laws.specs.Choice.{_and_, _or_, pick}
+use Rattle.rules.specs.Registers.{at, sameNode}
+use Rattle.rules.specs.Respond.{less, joint, meeting}
 use Rattle.rules.specs.declared.finding.Length.{Length}
 use Rattle.rules.specs.declared.finding.Response.{Response}
 
@@ -35,5 +35,10 @@ module _ (w : ℕ) where
     unfoldable pub remainingBy : ℕ → Length
     remainingBy f = less f grownBy
 
-    unfoldable pub responseBy : List ℕ → ℕ → Response
-    responseBy ss f = respond (at ss (w % 256)) (at ss (w / 256 % 256)) (w % 256) (w / 256 % 256) (remainingBy f)
+    unfoldable pub meetingBy : List ℕ → ℕ → Response
+    meetingBy ss f = meeting (at ss (w % 256)) (at ss (w / 256 % 256)) (w % 256) (w / 256 % 256) (remainingBy f)
+
+  -- "equal shadow nodes, or joint speed not positive"
+  unfoldable pub idleBy : List ℕ → Bool
+  idleBy ss =
+      sameNode (at ss (w % 256) .node) (at ss (w / 256 % 256) .node) or eqb (joint (at ss (w % 256) .speed) (at ss (w / 256 % 256) .speed)) 0

@@ -3,10 +3,14 @@ use Prim.Native.Nat.{ℕ}
 use mathlib.Core.Path.{_≡_, refl}
 use mathlib.Core.List.{List}
 use lib.ListN.{getD}
+use Rattle.laws.specs.Choice.{pick}
+use Rattle.rules.specs.declared.finding.Finding.the-variants.{GrowLength}
+use Rattle.rules.specs.declared.finding.Length.the-variants.{NoLimit}
+use Rattle.rules.specs.declared.finding.Response.the-variants.{Reports}
 use Rattle.rules.specs.Graph.{leftOf, rightOf, conditionOf, farEnd}
 use Rattle.rules.specs.Fetch.{reduced, fetchWeight, tight, countedTight}
-use Rattle.rules.specs.Respond.{remaining, edgeResponse}
-use Rattle.comb_edge.specs.Edge.{farEndBy, reducedBy, weightBy, grownBy, tightBy, countedTightBy, remainingBy, responseBy}
+use Rattle.rules.specs.Respond.{remaining, respond, edgeResponse}
+use Rattle.comb_edge.specs.Edge.{farEndBy, reducedBy, weightBy, grownBy, tightBy, countedTightBy, remainingBy, idleBy, meetingBy}
 
 module _ (es : List ℕ) (e : ℕ) where
   pub far-end-by : (v : ℕ) → farEnd es v e ≡ farEndBy (getD es e 0) v
@@ -34,6 +38,7 @@ module _ (es : List ℕ) (e : ℕ) where
     unfolding remaining leftOf rightOf remainingBy grownBy
     remaining-by fs = refl
 
-    pub response-by : (fs ss : List ℕ) → edgeResponse es fs rs ss e ≡ responseBy (getD es e 0) rs ss (getD fs e 0)
-    unfolding edgeResponse remaining leftOf rightOf responseBy remainingBy grownBy
+    pub response-by : (fs ss : List ℕ)
+        → edgeResponse es fs rs ss e ≡ pick (idleBy (getD es e 0) ss) (Reports (GrowLength NoLimit)) (meetingBy (getD es e 0) rs ss (getD fs e 0))
+    unfolding edgeResponse respond remaining leftOf rightOf idleBy meetingBy remainingBy grownBy
     response-by fs ss = refl

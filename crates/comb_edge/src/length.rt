@@ -2,6 +2,9 @@
 use rules::finding::Length;
 use rules::instruction::CompactGrowState;
 ghost use mathlib.Core.Path.{_≡_};
+ghost use Prim.Native.Nat.{_≤_};
+ghost use Rattle.laws.specs.Fold.{bit};
+ghost use Rattle.rules.specs.Registers.{growing};
 ghost use Rattle.rules.specs.Respond as Respond;
 
 // a less b
@@ -44,25 +47,22 @@ pub fn half(length: Length) -> Length
     }
 }
 
-// The joint speed of two ends where it is positive, else 0.
+// 1 for Grow, else 0.
+fn growth(speed: CompactGrowState) -> u32
+    ensures { λ r. ⌜ (r ≡ bit (growing speed)) × (r ≤ 1) ⌝ }
+{
+    if speed.is_growing() { 1 } else { 0 }
+}
+
+// The joint speed of two ends where it is positive, else 0. A sum, since which end grows is hard to predict.
 pub fn joint(left: CompactGrowState, right: CompactGrowState) -> u32
     ensures { λ r. ⌜ r ≡ Respond.joint left right ⌝ }
 {
-    match left {
-        CompactGrowState::Stay => match right {
-            CompactGrowState::Stay => 0,
-            CompactGrowState::Grow => 1,
-            CompactGrowState::Shrink => 0,
-        },
-        CompactGrowState::Grow => match right {
-            CompactGrowState::Stay => 1,
-            CompactGrowState::Grow => 2,
-            CompactGrowState::Shrink => 0,
-        },
-        CompactGrowState::Shrink => match right {
-            CompactGrowState::Stay => 0,
-            CompactGrowState::Grow => 0,
-            CompactGrowState::Shrink => 0,
-        },
+    if left.is_shrinking() {
+        return 0;
     }
+    if right.is_shrinking() {
+        return 0;
+    }
+    growth(left) + growth(right)
 }

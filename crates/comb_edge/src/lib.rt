@@ -13,7 +13,7 @@ ghost use Prim.Native.Nat.{_/_, _%_, _<_, min};
 ghost use Rattle.laws.specs.Table.{paint};
 ghost use Rattle.rules.specs.Fetch.{fetchWeight};
 ghost use Rattle.rules.specs.Registers as Registers;
-ghost use Rattle.comb_edge.specs.Edge.{farEndBy, reducedBy, weightBy, grownBy, tightBy, countedTightBy, remainingBy, responseBy};
+ghost use Rattle.comb_edge.specs.Edge.{farEndBy, reducedBy, weightBy, grownBy, tightBy, countedTightBy, remainingBy, idleBy, meetingBy};
 
 pub fn left(edge: u32) -> VertexIndex
     ensures { λ r. ⌜ r .0 ≡ edge % 256 ⌝ }
@@ -103,13 +103,20 @@ pub fn remaining(edge: u32, fetched: u32, registers: &[u64; 256]) -> Length
     length::less(fetched, grown(edge, registers))
 }
 
-// What the edge reports of the registers after stage 5 and the shadows.
-pub fn response(edge: u32, fetched: u32, registers: &[u64; 256], shadows: &[u64; 256]) -> Response
-    ensures { λ r. ⌜ r ≡ responseBy edge (now (registers .entry)) (now (shadows .entry)) fetched ⌝ }
+// "An edge with equal shadow nodes, or joint speed not positive": most edges, told by their shadows alone.
+pub fn is_idle(edge: u32, shadows: &[u64; 256]) -> bool
+    ensures { λ r. ⌜ r ≡ idleBy edge (now (shadows .entry)) ⌝ }
+{
+    respond::is_idle(at(shadows, left(edge)), at(shadows, right(edge)))
+}
+
+// What an edge that is not idle reports of the registers after stage 5 and the shadows.
+pub fn meeting(edge: u32, fetched: u32, registers: &[u64; 256], shadows: &[u64; 256]) -> Response
+    ensures { λ r. ⌜ r ≡ meetingBy edge (now (registers .entry)) (now (shadows .entry)) fetched ⌝ }
 {
     let v = left(edge);
     let w = right(edge);
-    respond::respond(
+    respond::meeting(
         at(shadows, v),
         at(shadows, w),
         v,

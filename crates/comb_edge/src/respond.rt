@@ -82,8 +82,8 @@ fn is_conflict(left: VertexRegisters, right: VertexRegisters, remaining: Length)
     false
 }
 
-// The ends differ in node.
-fn meeting(
+// What the shadows of the ends v and w report where they are not idle, with what remains between them.
+pub fn meeting(
     left: VertexRegisters,
     right: VertexRegisters,
     v: VertexIndex,
@@ -101,7 +101,7 @@ fn meeting(
 }
 
 // "equal shadow nodes, or joint speed not positive"
-fn is_idle(left: VertexRegisters, right: VertexRegisters) -> bool
+pub fn is_idle(left: VertexRegisters, right: VertexRegisters) -> bool
     ensures { λ r. ⌜ r ≡ (sameNode (left .node) (right .node) or eqb (Respond.joint (left .speed) (right .speed)) 0) ⌝ }
 {
     if left.node.0 == right.node.0 {
@@ -110,20 +110,4 @@ fn is_idle(left: VertexRegisters, right: VertexRegisters) -> bool
     let a = left.speed;
     let b = right.speed;
     joint(a, b) == 0
-}
-
-// What the shadows of the ends v and w report, with what remains between them.
-pub fn respond(
-    left: VertexRegisters,
-    right: VertexRegisters,
-    v: VertexIndex,
-    w: VertexIndex,
-    remaining: Length,
-) -> Response
-    ensures { λ r. ⌜ r ≡ Respond.respond left right (v .0) (w .0) remaining ⌝ }
-{
-    if is_idle(left, right) {
-        return Response::Reports(Finding::GrowLength(Length::NoLimit));
-    }
-    meeting(left, right, v, w, remaining)
 }

@@ -1,3 +1,2 @@
-pub mod Filled
+pub mod Settling
 pub mod Reporting
-pub mod Shadowing

@@ -22,6 +22,9 @@ module _ (es fs xs ps ds : List ℕ) where
   unfoldable pub yieldingPeer : ℕ → VertexRegisters → PropagatingPeer
   yieldingPeer v x = pick (shrinking (x .speed) and eqb (x .grown) 0) (peerAt es fs xs ps ds v) Nobody
 
-unfoldable pub shadowWord : List ℕ → List ℕ → List ℕ → List ℕ → List ℕ → List ℕ → List ℕ → List Bool → ℕ → ℕ
-shadowWord vs es fs xs ys ps ds stalled v =
-    keep (shadow (yieldingPeer es fs xs ps ds v (at ys v)) (waits vs v (at ys v)) (getD stalled v false) (at ys v))
+-- y holds the registers of v after stage 5
+unfoldable pub seenBy : List ℕ → List Bool → ℕ → PropagatingPeer → VertexRegisters → ℕ
+seenBy vs stalled v p y = keep (shadow p (waits vs v y) (getD stalled v false) y)
+
+unfoldable pub shadowWord : List ℕ → List ℕ → List ℕ → List ℕ → List ℕ → List ℕ → List Bool → ℕ → ℕ
+shadowWord vs es fs xs ps ds stalled v = seenBy vs stalled v (peerAt es fs xs ps ds v) (update (peerAt es fs xs ps ds v) (at xs v))

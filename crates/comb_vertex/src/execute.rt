@@ -1,6 +1,7 @@
 // Stage 3 over all vertices.
 use crate::at;
 use rules::index::LayerId;
+use rules::index::NodeIndex;
 use rules::index::VertexIndex;
 use rules::instruction::Instruction;
 use rules::refusal::Refusal;
@@ -14,6 +15,7 @@ ghost use Rattle.laws.specs.Choice.{_or_};
 ghost use Rattle.rules.specs.Execute as Execute;
 ghost use Rattle.rules.specs.Graph as Graph;
 ghost use Rattle.rules.specs.Registers as Registers;
+ghost use Rattle.comb_vertex.specs.Execution as Stage;
 ghost use Rattle.comb_vertex.specs.Execution.{execution, executedInto};
 
 // Whether all vertices took the instruction, or 14 or 15.
@@ -28,7 +30,7 @@ fn layer_of(vertices: &[u32; 256], v: u8) -> LayerId
     LayerId((vertices[v as usize] % 65_536) as u16)
 }
 
-fn has_layer(vertices: &[u32; 256], v: u8) -> bool
+pub fn has_layer(vertices: &[u32; 256], v: u8) -> bool
     ensures { λ r. ⌜ r ≡ Graph.hasLayer (now (vertices .entry)) v ⌝ }
 {
     vertices[v as usize] % 65_536 < 32_768
@@ -70,6 +72,45 @@ fn execute_at(
     )
 }
 
+fn belongs_to(registers: VertexRegisters, node: NodeIndex) -> bool
+    ensures { λ r. ⌜ r ≡ (Registers.sameNode (registers .node) node or Registers.sameNode (registers .root) node) ⌝ }
+{
+    if registers.node.0 == node.0 {
+        return true;
+    }
+    registers.root.0 == node.0
+}
+
+fn is_moving(registers: VertexRegisters) -> bool
+    ensures { λ r. ⌜ r ≡ (Registers.growing (registers .speed) or Registers.shrinking (registers .speed)) ⌝ }
+{
+    let speed = registers.speed;
+    if speed.is_growing() {
+        return true;
+    }
+    speed.is_shrinking()
+}
+
+// Whether the instruction may change the vertex v with these registers: most it does not, and their words stand as they are.
+fn concerns(instruction: Instruction, v: u8, registers: VertexRegisters) -> bool
+    ensures { λ r. ⌜ r ≡ Stage.concerns instruction v registers ⌝ }
+{
+    match instruction {
+        Instruction::SetSpeed { node, speed: _ } => registers.node.0 == node.0,
+        Instruction::SetBlossom { node, blossom: _ } => belongs_to(registers, node),
+        Instruction::AddDefectVertex { vertex, node: _ } => vertex.0 == v as u16,
+        Instruction::FindObstacle => false,
+        Instruction::Grow { length: _ } => is_moving(registers),
+        Instruction::LoadDefectsExternal { time: _ } => registers.is_virtual,
+    }
+}
+
+fn is_concerned(registers: &[u64; 256], instruction: Instruction, v: u8) -> bool
+    ensures { λ r. ⌜ r ≡ Stage.concerns instruction v (Registers.at (now (registers .entry)) v) ⌝ }
+{
+    concerns(instruction, v, at(registers, v))
+}
+
 fn refusal_of(executed: Executed) -> Execution
     ensures { λ r. ⌜ r ≡ execution (Execute.refusalOf executed) ⌝ }
 {
@@ -101,6 +142,11 @@ pub fn execute(
     let n = at_most_256(nv);
     let mut v: usize = 0;
     while v < n {
+        if !is_concerned(registers, instruction, v as u8) {
+            out[v] = registers[v];
+            v += 1;
+            continue;
+        }
         let executed = execute_at(vertices, registers, stalled, instruction, v as u8);
         let Executed::Done(next) = executed else {
             return refusal_of(executed);

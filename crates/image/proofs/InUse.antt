@@ -6,9 +6,10 @@ use mathlib.Core.List.{List, [], _∷_, _++_, map}
 use mathlib.Core.Option.{none}
 use native.Mathlib.Omega.{arith}
 use lib.ListN.{length, getD, replicate, length-append, length-replicate}
-use borrow.Author.Tests.{eq-eqb, lt-ltb}
+use borrow.Author.Tests.{lt-ltb}
 use Rattle.laws.specs.Choice.{_and_, _or_, pick}
 use Rattle.laws.specs.Fold.{upTo, countTo}
+use Rattle.laws.specs.Leading.{leading-all}
 use Rattle.laws.specs.Listed.{indices}
 use Rattle.laws.specs.Table.{table, length-table, paint, getD-painted}
 use Rattle.rules.specs.Graph.{leftOf, rightOf, touches, degree, fits, edgesInUse, inUse}
@@ -21,11 +22,6 @@ count-same : (p q : ℕ → Bool) (n : ℕ) → ((k : ℕ) → k < n → p k ≡
 unfolding upTo
 count-same p q zero h = refl
 count-same p q (suc n) h = rw (h n (omega arith), count-same p q n (λ k l. h k (omega arith)))
-
-all-in-use : (es : List ℕ) (n : ℕ) → ((k : ℕ) → k < n → fits es k ≡ true) → edgesInUse es n ≡ n
-unfolding edgesInUse upTo _and_ pick
-all-in-use es zero h = refl
-all-in-use es (suc n) h = rw (all-in-use es n (λ k l. h k (omega arith)), eq-eqb n n refl, h n (omega arith))
 
 length-map : (f : ℕ → ℕ) (xs : List ℕ) → length (map f xs) ≡ length xs
 length-map f [] = refl
@@ -108,9 +104,9 @@ module _ (bs : List ℕ) (ok : imageRefusal bs ≡ none) where
       )
 
   pub graph-in-use : inUse (graphOf bs) ≡ graphOf bs
-  unfolding inUse graphOf
+  unfolding inUse graphOf edgesInUse
   graph-in-use =
       let v : min (vertexCount bs) 256 ≡ vertexCount bs = omega (arith, vertices-fit bs (head-passes bs ok)) in
       let e : min (edgeCount bs) 1_024 ≡ edgeCount bs = omega (arith, edges-fit bs (head-passes bs ok)) in
       let u : min (length (unitWords bs)) 2_048 ≡ length (unitWords bs) = omega (arith, units-in-use) in
-      rw (v, e, u, all-in-use es (edgeCount bs) edge-fits)
+      rw (v, e, u, leading-all (fits es) (edgeCount bs) edge-fits)

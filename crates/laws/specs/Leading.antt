@@ -30,6 +30,12 @@ module _ (p : ℕ → Bool) where
   leading-stop i n e h l =
       le-ind (λ (m : ℕ). leading p m ≡ i) (rw (e, eq-eqb i i refl, h)) (λ m k q. rw (q, ne-eqb i m (λ z. omega arith))) n l
 
+  -- all below n pass
+  pub leading-all : (n : ℕ) → ((k : ℕ) → k < n → p k ≡ true) → leading p n ≡ n
+  unfolding upTo pick _and_
+  leading-all zero h = refl
+  leading-all (suc n) h = rw (leading-all n (λ k l. h k (omega arith)), eq-eqb n n refl, h n (omega arith))
+
   grows : (n m : ℕ) (b : Bool) → m ≤ n → pick b (suc m) m ≤ suc n
   unfolding pick
   grows n m true l = omega arith

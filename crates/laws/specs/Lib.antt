@@ -13,3 +13,4 @@ pub mod Stored
 pub mod Orders
 pub mod Appended
 pub mod Begun
+pub mod Placed

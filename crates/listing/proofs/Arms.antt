@@ -10,7 +10,7 @@ use Rattle.rules.specs.declared.finding.Tally.{Tally}
 use Rattle.rules.specs.declared.finding.Sought.{Sought}
 use Rattle.rules.specs.declared.finding.Sought.the-variants as S
 use Rattle.rules.specs.declared.refusal.Refusal.{Refusal}
-use Rattle.listing.specs.Placed.{Wrote, wrote-then, three-writes}
+use Rattle.laws.specs.Placed.{Wrote, wrote-then, three-writes}
 use Rattle.listing.specs.Sides.{sidesText}
 
 -- f b is written where b is found to be v: by one writer, or by two

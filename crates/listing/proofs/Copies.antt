@@ -6,7 +6,7 @@ use native.Mathlib.Numerals.{add-one}
 use native.Mathlib.Omega.{arith}
 use lib.ListN.{length, take, getD, set}
 use lib.Seq.{take-suc, take-all}
-use Rattle.listing.specs.Placed.{Wrote, wrote-nothing, wrote-one, wrote-then, wrote-length}
+use Rattle.laws.specs.Placed.{Wrote, wrote-nothing, wrote-one, wrote-then, wrote-length}
 
 module _ (text : List ℕ) (at : ℕ) (before : List ℕ) (room : at + length text ≤ length before) where
   pub copy-none : Wrote (take 0 text) at before (at + 0) before

@@ -10,7 +10,7 @@ use lib.Dec.{ltb}
 use lib.ListN.{length, set, length-append}
 use Rattle.laws.specs.Choice.{by-test}
 use Rattle.rules.specs.Listing.{digits, decimal}
-use Rattle.listing.specs.Placed.{placed, Wrote, placed-none, placed-last, wrote-length}
+use Rattle.laws.specs.Placed.{placed, Wrote, placed-none, placed-last, wrote-length}
 
 -- the last k digits of n
 unfoldable pub lastDigits : ℕ → ℕ → List ℕ

@@ -10,7 +10,7 @@ use lib.ListN.{length, take, getD}
 use lib.Seq.{take-all}
 use Rattle.rules.specs.Listing.{decimal, number, numbers}
 use Rattle.rules.specs.Pairs.{raisedFrom}
-use Rattle.listing.specs.Placed.{Wrote, wrote-then, wrote-nothing}
+use Rattle.laws.specs.Placed.{Wrote, wrote-then, wrote-nothing}
 use Rattle.listing.specs.Pairs.{edgeText}
 use Rattle.listing.proofs.Digits.{at-most, room-after}
 

@@ -5,7 +5,7 @@ use mathlib.Core.List.{List, [], _∷_}
 use native.Mathlib.Omega.{arith}
 use lib.ListN.{length}
 use Rattle.rules.specs.Listing.{line}
-use Rattle.listing.specs.Placed.{Wrote, wrote-then}
+use Rattle.laws.specs.Placed.{Wrote, wrote-then}
 use Rattle.listing.specs.Lines.{lineEnd, lineIn, end-with-room, in-with-room, end-without-room, in-without-room}
 
 module _ (most at left : ℕ) (text x : List ℕ) (e : left ≡ length x - at) where

@@ -6,7 +6,7 @@ use borrow.Author.Tests.{le-leb, lt-leb}
 use lib.Dec.{leb}
 use lib.ListN.{length}
 use Rattle.laws.specs.Choice.{pick}
-use Rattle.listing.specs.Placed.{placed}
+use Rattle.laws.specs.Placed.{placed}
 
 -- `s c`, nine numbers of a space and ten digits at most, and the line's end
 abbrev pub longest : ℕ

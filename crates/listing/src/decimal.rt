@@ -5,7 +5,7 @@ ghost use mathlib.Core.List.{_++_};
 ghost use Prim.Native.Nat.{_+_, _≤_};
 ghost use lib.ListN.{length};
 ghost use Rattle.rules.specs.Listing.{decimal, number};
-ghost use Rattle.listing.specs.Placed.{Wrote};
+ghost use Rattle.laws.specs.Placed.{Wrote};
 
 // How many digits n has.
 fn width(n: u32) -> usize

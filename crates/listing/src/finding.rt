@@ -11,7 +11,7 @@ ghost use Prim.Native.Nat.{_+_, _≤_};
 ghost use mathlib.Core.List.{_++_};
 ghost use lib.ListN.{length};
 ghost use Rattle.rules.specs.Listing.{number, lengthText, nodeText, findingText};
-ghost use Rattle.listing.specs.Placed.{Wrote};
+ghost use Rattle.laws.specs.Placed.{Wrote};
 ghost use Rattle.listing.specs.Sides.{sidesText};
 
 fn put_length(out: &mut [u8], at: usize, by: Length) -> usize

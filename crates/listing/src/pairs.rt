@@ -5,7 +5,7 @@ ghost use Prim.Native.Nat.{_+_, _<_, _≤_};
 ghost use lib.ListN.{length};
 ghost use Rattle.rules.specs.Listing.{numbers};
 ghost use Rattle.rules.specs.Pairs.{raisedFrom};
-ghost use Rattle.listing.specs.Placed.{Wrote};
+ghost use Rattle.laws.specs.Placed.{Wrote};
 ghost use Rattle.listing.specs.Pairs.{edgeText, pairsText};
 
 fn put_edge(out: &mut [u8], at: usize, e: usize, stalled: bool) -> usize

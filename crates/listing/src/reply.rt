@@ -14,7 +14,7 @@ ghost use lib.ListN.{length};
 ghost use Rattle.rules.specs.Listing.{number, refusalText, replyText, tallyText};
 ghost use Rattle.rules.specs.Numbers.{refusalNumber};
 ghost use Rattle.rules.specs.Run.{carried, found};
-ghost use Rattle.listing.specs.Placed.{Wrote};
+ghost use Rattle.laws.specs.Placed.{Wrote};
 ghost use Rattle.listing.specs.Heads.{headText, badText};
 
 fn put_refusal_number(out: &mut [u8], at: usize, refusal: Refusal) -> usize

@@ -2,7 +2,7 @@
 //     w 688128    what the word asks, and the word that this packs to
 //     i 32768     the words with this index in each place that takes one
 //     l 2         the word that grows by this length
-// tools/expect_words.py makes the lines, and what is to be written for each, from document 01.
+// tools/expect_words.py makes the lines, and what is to be written for each, from document 01 and from what the Rust packed.
 ghost use Prim.Native.Nat.{_≤_};
 use rules::index::LayerId;
 use rules::index::NodeIndex;

@@ -1,5 +1,5 @@
 -- The vertices passed were all done, and their words are written. The measure is what is left of n.
-use Rattle.comb_vertex.proofs.Executing.{executing, turn-count, turn-refusal}
+use Rattle.comb_vertex.proofs.Executing.{executing, turn-count, turn-refusal, rest-count, rest-refusal}
 use Rattle.laws.specs.Table.{paint}
 use Rattle.rules.specs.Execute.{executeRefusal}
 use Rattle.comb_vertex.specs.Execution.{executedWord, executedCount}
@@ -23,6 +23,36 @@ at-most-256-requires c κs = search (needs, executing)
 loop-holds : tie.Need-loop-holds Inv-loop μ-loop
 loop-holds c = search (needs, executing)
 
+cast-is-concerned : tie.Need-cast-is-concerned Inv-loop μ-loop
+cast-is-concerned c = search (needs, executing)
+
+is-concerned-requires : tie.Need-is-concerned-requires Inv-loop μ-loop
+is-concerned-requires c κs = search (needs, executing)
+
+mul-out : tie.Need-mul-out Inv-loop μ-loop
+mul-out c = search (needs, executing)
+
+element-copy-out-out : tie.Need-element-copy-out-out Inv-loop μ-loop
+element-copy-out-out c = search (needs, executing)
+
+mul-out-2 : tie.Need-mul-out-2 Inv-loop μ-loop
+mul-out-2 c = search (needs, executing)
+
+element-write-out : tie.Need-element-write-out Inv-loop μ-loop
+element-write-out c = search (needs, executing)
+
+add-v : tie.Need-add-v Inv-loop μ-loop
+add-v c = search (needs, executing)
+
+loop-less : tie.Need-loop-less Inv-loop μ-loop
+loop-less c = search (needs, executing)
+
+loop-again : tie.Need-loop-again Inv-loop μ-loop
+loop-again c =
+    let t = c .before .before .is-concerned .ensures in
+    let q = c .before .if1 .taken in
+    (search needs, search (executing, t, q), rest-count _ _ _ _ _ _ t q (search needs), rest-refusal _ _ _ _ _ _ t q (search needs))
+
 cast-execute-at : tie.Need-cast-execute-at Inv-loop μ-loop
 cast-execute-at c = search (needs, executing)
 
@@ -41,20 +71,20 @@ returns c = search (needs, executing)
 keep-requires : tie.Need-keep-requires Inv-loop μ-loop
 keep-requires c κs = search (needs, executing)
 
-mul-out : tie.Need-mul-out Inv-loop μ-loop
-mul-out c = search (needs, executing)
+mul-out-3 : tie.Need-mul-out-3 Inv-loop μ-loop
+mul-out-3 c = search (needs, executing)
 
-element-write-out : tie.Need-element-write-out Inv-loop μ-loop
-element-write-out c = search (needs, executing)
+element-write-out-2 : tie.Need-element-write-out-2 Inv-loop μ-loop
+element-write-out-2 c = search (needs, executing)
 
-add-v : tie.Need-add-v Inv-loop μ-loop
-add-v c = search (needs, executing)
+add-v-2 : tie.Need-add-v-2 Inv-loop μ-loop
+add-v-2 c = search (needs, executing)
 
-loop-less : tie.Need-loop-less Inv-loop μ-loop
-loop-less c = search (needs, executing)
+loop-less-2 : tie.Need-loop-less-2 Inv-loop μ-loop
+loop-less-2 c = search (needs, executing)
 
-loop-again : tie.Need-loop-again Inv-loop μ-loop
-loop-again c =
+loop-again-2 : tie.Need-loop-again-2 Inv-loop μ-loop
+loop-again-2 c =
     let t = c .before .before .before .before .execute-at .ensures in
     let e = c .before .before .executed .given .1 in
     (search needs, search executing, turn-count _ _ _ _ _ _ t _ e (search needs), turn-refusal _ _ _ _ _ _ t _ e (search needs))
@@ -70,15 +100,24 @@ execute-spec =
     μ-loop
     at-most-256-requires
     loop-holds
+    cast-is-concerned
+    is-concerned-requires
+    mul-out
+    element-copy-out-out
+    mul-out-2
+    element-write-out
+    add-v
+    loop-less
+    loop-again
     cast-execute-at
     execute-at-requires
     enum-known-executed
     refusal-of-requires
     returns
     keep-requires
-    mul-out
-    element-write-out
-    add-v
-    loop-less
-    loop-again
+    mul-out-3
+    element-write-out-2
+    add-v-2
+    loop-less-2
+    loop-again-2
     returns-2)

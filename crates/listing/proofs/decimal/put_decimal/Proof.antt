@@ -4,7 +4,7 @@ use mathlib.Core.Path.{_≡_}
 use borrow.Author.Needs.{needs}
 use lib.ListN.{length}
 use Rattle.rules.specs.Listing.{decimal}
-use Rattle.listing.specs.Placed.{placed}
+use Rattle.laws.specs.Placed.{placed}
 use Rattle.listing.proofs.Digits.{lastDigits, spells}
 use Rattle.listing.proofs.decimal.put_decimal.Statement.{statement}
 use Rattle.listing.proofs.decimal.put_decimal.Tie as tie

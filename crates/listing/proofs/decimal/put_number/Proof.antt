@@ -1,6 +1,6 @@
 -- A space, then the digits, for which ten places are left.
 use borrow.Author.Needs.{needs}
-use Rattle.listing.specs.Placed.{writes}
+use Rattle.laws.specs.Placed.{writes}
 use Rattle.listing.proofs.Digits.{room-after-space}
 use Rattle.listing.proofs.decimal.put_number.Statement.{statement}
 use Rattle.listing.proofs.decimal.put_number.Tie as tie

@@ -1,6 +1,6 @@
 -- One number after the other.
 use borrow.Author.Needs.{needs}
-use Rattle.listing.specs.Placed.{writes}
+use Rattle.laws.specs.Placed.{writes}
 use Rattle.listing.proofs.decimal.put_three.Statement.{statement}
 use Rattle.listing.proofs.decimal.put_three.Tie as tie
 

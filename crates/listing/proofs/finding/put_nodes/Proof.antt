@@ -1,6 +1,6 @@
 -- One node after the other.
 use borrow.Author.Needs.{needs}
-use Rattle.listing.specs.Placed.{writes}
+use Rattle.laws.specs.Placed.{writes}
 use Rattle.listing.proofs.finding.put_nodes.Statement.{statement}
 use Rattle.listing.proofs.finding.put_nodes.Tie as tie
 

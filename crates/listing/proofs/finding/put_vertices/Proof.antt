@@ -1,6 +1,6 @@
 -- One vertex after the other.
 use borrow.Author.Needs.{needs}
-use Rattle.listing.specs.Placed.{writes}
+use Rattle.laws.specs.Placed.{writes}
 use Rattle.listing.proofs.finding.put_vertices.Statement.{statement}
 use Rattle.listing.proofs.finding.put_vertices.Tie as tie
 

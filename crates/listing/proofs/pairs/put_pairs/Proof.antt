@@ -1,6 +1,6 @@
 -- The letter, then the edges.
 use borrow.Author.Needs.{needs}
-use Rattle.listing.specs.Placed.{writes}
+use Rattle.laws.specs.Placed.{writes}
 use Rattle.listing.proofs.pairs.put_pairs.Statement.{statement}
 use Rattle.listing.proofs.pairs.put_pairs.Tie as tie
 

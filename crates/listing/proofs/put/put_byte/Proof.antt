@@ -1,6 +1,6 @@
 -- A store at the position is the byte placed there.
 use borrow.Author.Needs.{needs}
-use Rattle.listing.specs.Placed.{wrote-one}
+use Rattle.laws.specs.Placed.{wrote-one}
 use Rattle.listing.proofs.put.put_byte.Statement.{statement}
 use Rattle.listing.proofs.put.put_byte.Tie as tie
 

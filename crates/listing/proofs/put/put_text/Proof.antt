@@ -2,7 +2,7 @@
 use Prim.Native.Nat.{_+_, _≤_, _-_}
 use borrow.Author.Needs.{needs}
 use lib.ListN.{length, take}
-use Rattle.listing.specs.Placed.{Wrote, wrote-length}
+use Rattle.laws.specs.Placed.{Wrote, wrote-length}
 use Rattle.listing.proofs.Copies.{copies}
 use Rattle.listing.proofs.put.put_text.Statement.{statement}
 use Rattle.listing.proofs.put.put_text.Tie as tie

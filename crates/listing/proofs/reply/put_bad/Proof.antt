@@ -1,6 +1,6 @@
 -- The word, then the number.
 use borrow.Author.Needs.{needs}
-use Rattle.listing.specs.Placed.{writes}
+use Rattle.laws.specs.Placed.{writes}
 use Rattle.listing.proofs.reply.put_bad.Statement.{statement}
 use Rattle.listing.proofs.reply.put_bad.Tie as tie
 

@@ -2,7 +2,7 @@
 use borrow.Author.Needs.{needs}
 use Rattle.laws.specs.Choice.{pick}
 use Rattle.rules.specs.Listing.{decimal, digits}
-use Rattle.listing.specs.Placed.{writes}
+use Rattle.laws.specs.Placed.{writes}
 use Rattle.listing.proofs.reply.put_head.Statement.{statement}
 use Rattle.listing.proofs.reply.put_head.Tie as tie
 

@@ -1,6 +1,6 @@
 -- The letter, then the number.
 use borrow.Author.Needs.{needs}
-use Rattle.listing.specs.Placed.{writes}
+use Rattle.laws.specs.Placed.{writes}
 use Rattle.listing.proofs.reply.put_refusal.Statement.{statement}
 use Rattle.listing.proofs.reply.put_refusal.Tie as tie
 

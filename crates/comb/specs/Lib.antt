@@ -1,0 +1,2 @@
+pub mod Decoder
+pub mod Raised

@@ -1,0 +1,198 @@
+// The decoder: a graph, and a state by value that each call takes and gives back. Every value of either is answered.
+mod pairs;
+
+use comb_lent::counts::counts_of;
+use comb_lent::instruct::instruct;
+use comb_lent::reset::fresh_registers;
+use comb_lent::reset::no_flags;
+use comb_lent::search;
+use comb_lent::word::carry_word;
+use places::place_edges;
+use rules::graph::Graph;
+use rules::graph::Opening;
+use rules::instruction::Instruction;
+use rules::state::Cycle;
+use rules::state::Searched;
+use rules::state::State;
+use rules::state::WordCycle;
+ghost use mathlib.Core.Path.{_≡_};
+ghost use Rattle.rules.specs.Image as Image;
+ghost use Rattle.rules.specs.Instruct as Instruct;
+ghost use Rattle.rules.specs.Search as Search;
+ghost use Rattle.rules.specs.State as Fresh;
+ghost use Rattle.comb.specs.Decoder.{decoderOf};
+pub use pairs::list_pairs;
+
+// A refused image opens no decoder: its graph is blank.
+pub struct Decoder {
+    pub graph: Graph,
+    pub state: State,
+    pub opening: Opening,
+}
+
+fn fresh_state(graph: Graph, maximum: u32) -> State
+    ensures { λ r. ⌜ r ≡ Fresh.freshState graph maximum ⌝ }
+{
+    let registers = fresh_registers(&graph.vertices, graph.nv);
+    let stalled = no_flags();
+    State {
+        registers,
+        weights: graph.weights,
+        stalled,
+        maximum,
+    }
+}
+
+// "The first maximum is no limit"
+pub fn first_state(graph: Graph) -> State
+    ensures { λ r. ⌜ r ≡ Fresh.firstState graph ⌝ }
+{
+    fresh_state(graph, 2_147_483_647)
+}
+
+// "Reset does this and empties the pair list; it keeps the maximum"
+pub fn reset(graph: Graph, state: State) -> State
+    ensures { λ r. ⌜ r ≡ Fresh.reset graph state ⌝ }
+{
+    fresh_state(graph, state.maximum)
+}
+
+pub fn open(bytes: &[u8]) -> Decoder
+    ensures { λ r. ⌜ r ≡ decoderOf (Image.opened (now (bytes .entry))) ⌝ }
+{
+    let opened = image::open(bytes);
+    let graph = opened.graph;
+    let opening = opened.opening;
+    Decoder {
+        graph,
+        state: first_state(graph),
+        opening,
+    }
+}
+
+pub fn execute(graph: Graph, state: State, instruction: Instruction) -> Cycle
+    ensures { λ r. ⌜ r ≡ Instruct.instruct graph state instruction ⌝ }
+{
+    let placed = place_edges(&graph.edges, graph.ne);
+    let mut registers = state.registers;
+    let mut stalled = state.stalled;
+    let answer = instruct(
+        counts_of(graph.nv, placed.ne, graph.nu),
+        &graph.vertices,
+        &graph.edges,
+        &graph.units,
+        &placed.degrees,
+        &placed.places,
+        &state.weights,
+        &mut registers,
+        &mut stalled,
+        instruction,
+    );
+    let after = State {
+        registers,
+        weights: state.weights,
+        stalled,
+        maximum: state.maximum,
+    };
+    Cycle {
+        state: after,
+        answer,
+    }
+}
+
+pub fn execute_word(graph: Graph, state: State, word: u32) -> WordCycle
+    ensures { λ r. ⌜ r ≡ Instruct.wordRun graph state word ⌝ }
+{
+    let placed = place_edges(&graph.edges, graph.ne);
+    let mut registers = state.registers;
+    let mut weights = state.weights;
+    let mut stalled = state.stalled;
+    let answer = carry_word(
+        counts_of(graph.nv, placed.ne, graph.nu),
+        &graph.vertices,
+        &graph.edges,
+        &graph.units,
+        &placed.degrees,
+        &placed.places,
+        &graph.weights,
+        &mut weights,
+        &mut registers,
+        &mut stalled,
+        word,
+    );
+    let after = State {
+        registers,
+        weights,
+        stalled,
+        maximum: state.maximum,
+    };
+    WordCycle {
+        state: after,
+        answer,
+    }
+}
+
+// Search with what is left of the maximum.
+pub fn search_on(graph: Graph, state: State) -> Searched
+    ensures { λ r. ⌜ r ≡ Search.searchOn graph state ⌝ }
+{
+    let placed = place_edges(&graph.edges, graph.ne);
+    let mut registers = state.registers;
+    let mut stalled = state.stalled;
+    let found = search::search_on(
+        counts_of(graph.nv, placed.ne, graph.nu),
+        &graph.vertices,
+        &graph.edges,
+        &graph.units,
+        &placed.degrees,
+        &placed.places,
+        &state.weights,
+        &mut registers,
+        &mut stalled,
+        state.maximum,
+    );
+    let answer = found.answer;
+    let after = State {
+        registers,
+        weights: state.weights,
+        stalled,
+        maximum: found.left,
+    };
+    Searched {
+        state: after,
+        answer,
+    }
+}
+
+// Search with a new maximum, 32 bits read as signed.
+pub fn search_to(graph: Graph, state: State, maximum: u32) -> Searched
+    ensures { λ r. ⌜ r ≡ Search.searchTo graph state maximum ⌝ }
+{
+    let placed = place_edges(&graph.edges, graph.ne);
+    let mut registers = state.registers;
+    let mut stalled = state.stalled;
+    let found = search::search_to(
+        counts_of(graph.nv, placed.ne, graph.nu),
+        &graph.vertices,
+        &graph.edges,
+        &graph.units,
+        &placed.degrees,
+        &placed.places,
+        &state.weights,
+        &mut registers,
+        &mut stalled,
+        state.maximum,
+        maximum,
+    );
+    let answer = found.answer;
+    let after = State {
+        registers,
+        weights: state.weights,
+        stalled,
+        maximum: found.left,
+    };
+    Searched {
+        state: after,
+        answer,
+    }
+}

@@ -1,0 +1,4 @@
+pub mod Responds
+pub mod Staging
+pub mod Showing
+pub mod Cycling

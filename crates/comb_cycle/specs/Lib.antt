@@ -1,0 +1,4 @@
+pub mod Cycled
+pub mod Lent
+pub mod Responses
+pub mod Stages

@@ -1,0 +1,4 @@
+// One instruction on lent tables: stages 1 to 8.
+pub mod cycle;
+mod respond;
+mod stages;

@@ -1,0 +1,7 @@
+// The decoder's calls on lent tables: an instruction, a word, the searches.
+mod bounds;
+pub mod counts;
+pub mod instruct;
+pub mod reset;
+pub mod search;
+pub mod word;

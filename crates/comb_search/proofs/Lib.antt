@@ -1,0 +1,4 @@
+pub mod Nexts
+pub mod Turns
+pub mod Seeks
+pub mod Again

@@ -1,0 +1,53 @@
+-- A turn's ways out, over variables: a finding leaves rs′ and stalled′ and is answered a; a Grow after it leaves rs″ and stalled″ and is
+-- answered b.
+use Prim.Native.Nat.{ℕ}
+use mathlib.Core.Path.{_≡_, refl, sym, ap, _∙_}
+use mathlib.Core.Bool.{Bool}
+use mathlib.Core.List.{List}
+use Rattle.rules.specs.declared.graph.Graph.{Graph}
+use Rattle.rules.specs.declared.finding.Finding.{Finding}
+use Rattle.rules.specs.declared.finding.Answer.{Answer}
+use Rattle.rules.specs.declared.finding.Answer.the-variants as A
+use Rattle.rules.specs.declared.instruction.Instruction.the-variants.{FindObstacle, Grow as GrowBy}
+use Rattle.rules.specs.declared.refusal.Refusal.{Refusal}
+use Rattle.rules.specs.declared.refusal.Refusal.the-variants.{NegativeLength}
+use Rattle.comb_cycle.specs.Cycled.{Cycled, cycledAs, cycled}
+use Rattle.comb_search.specs.Next.{nextOf}
+use Rattle.comb_search.specs.Turn.{Turned, turnedAs, grewBy, afterNext, afterAnswer, turned}
+use Rattle.comb_search.specs.declared.turn.Next.{Next}
+use Rattle.comb_search.specs.declared.turn.Next.the-variants.{Stop, Negative, Grow}
+use Rattle.comb_search.specs.declared.turn.Turn.{Turn}
+use Rattle.comb_search.specs.declared.turn.Turn.the-variants.{Found, Stopped, Grew}
+
+module _ (g : Graph) (rs ws rs′ : List ℕ) (stalled stalled′ : List Bool) (left : ℕ) (a : Answer)
+    (h : cycledAs rs′ stalled′ a ≡ cycled g rs ws stalled FindObstacle) where
+  is : afterAnswer g ws left (cycledAs rs′ stalled′ a) a ≡ turned g ws left rs stalled
+  unfolding turned
+  is = ap (λ (c : Cycled). afterAnswer g ws left c (c .answer)) h
+
+  pub turn-refused : (r : Refusal) → a ≡ A.Refused r → turnedAs rs′ stalled′ (Stopped r) ≡ turned g ws left rs stalled
+  turn-refused r e = rw e at is
+
+  module _ (f : Finding) (e : a ≡ A.Found f) (x : Next) (n : x ≡ nextOf f left) where
+    on : afterNext g ws left (cycledAs rs′ stalled′ a) x ≡ turned g ws left rs stalled
+    on = rw n (ap (afterAnswer g ws left (cycledAs rs′ stalled′ a)) (sym e) ∙ is)
+
+    pub turn-stops : (last : Finding) → x ≡ Stop last → turnedAs rs′ stalled′ (Found last) ≡ turned g ws left rs stalled
+    turn-stops last q = rw q at on
+
+    pub turn-negative : x ≡ Negative → turnedAs rs′ stalled′ (Stopped NegativeLength) ≡ turned g ws left rs stalled
+    turn-negative q = rw q at on
+
+    module _ (k : ℕ) (q : x ≡ Grow k) (rs″ : List ℕ) (stalled″ : List Bool) (b : Answer) (d : cycledAs rs″ stalled″ b ≡ cycled g rs′ ws stalled′ (GrowBy k)) where
+      grown : afterNext g ws left (cycledAs rs′ stalled′ a) (Grow k) ≡ turned g ws left rs stalled
+      grown = rw q at on
+
+      pub turn-grown : (z : Turn) → z ≡ grewBy k b → turnedAs rs″ stalled″ z ≡ turned g ws left rs stalled
+      turn-grown z p = rw p (rw (← d) at grown)
+
+-- a Grow's answer, by cases
+pub grew-found : (k : ℕ) (b : Answer) (t : Finding) → b ≡ A.Found t → Grew k ≡ grewBy k b
+grew-found k b t e = rw e
+
+pub grew-refused : (k : ℕ) (b : Answer) (r : Refusal) → b ≡ A.Refused r → Stopped r ≡ grewBy k b
+grew-refused k b r e = rw e

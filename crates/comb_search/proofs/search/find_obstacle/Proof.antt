@@ -1,0 +1,104 @@
+-- What is told of the search from here on is what is told of all of it.
+use Prim.Native.Nat.{ℕ, suc, _+_, _≤_}
+use mathlib.Core.Path.{_≡_}
+use native.Mathlib.Omega.{arith}
+use Rattle.comb_cycle.specs.Cycled.{stateOf}
+use Rattle.comb_cycle.specs.Lent.{graphOf}
+use Rattle.comb_search.specs.Seek.{seek}
+use Rattle.comb_search.proofs.Again.{leaps, at-least}
+use Rattle.comb_search.proofs.Seeks.{Seeking, begins, ends-found, ends-stopped, grew-some, grew-most}
+use borrow.Author.Needs.{needs}
+use Rattle.comb_search.proofs.search.find_obstacle.Statement.{statement}
+use Rattle.comb_search.proofs.search.find_obstacle.Tie as tie
+
+abbrev Inv-loop : tie.InvT-loop
+Inv-loop counts vertices edges units degrees places weights registers₀ stalled₀ maximum left₀ growth₀ steps₀ registers stalled left growth steps =
+    Seeking (graphOf counts vertices edges units) weights
+    (seek (graphOf counts vertices edges units) (suc maximum) (stateOf registers₀ weights stalled₀ maximum) 0 0) registers stalled left growth steps
+    × (growth + left ≡ maximum) × (steps ≤ growth)
+
+abbrev μ-loop : tie.MeasureT-loop
+μ-loop counts vertices edges units degrees places weights registers₀ stalled₀ maximum left₀ growth₀ steps₀ registers stalled left growth steps = left
+
+loop-holds : tie.Need-loop-holds Inv-loop μ-loop
+loop-holds c = search (needs, begins)
+
+take-turn-requires : tie.Need-take-turn-requires Inv-loop μ-loop
+take-turn-requires c κs = search needs
+
+enum-known-turn : tie.Need-enum-known-turn Inv-loop μ-loop
+enum-known-turn c = search needs
+
+returns : tie.Need-returns Inv-loop μ-loop
+returns c = search (needs, ends-found)
+
+enum-known-turn-2 : tie.Need-enum-known-turn-2 Inv-loop μ-loop
+enum-known-turn-2 c = search needs
+
+returns-2 : tie.Need-returns-2 Inv-loop μ-loop
+returns-2 c = search (needs, ends-stopped)
+
+enum-known-turn-3 : tie.Need-enum-known-turn-3 Inv-loop μ-loop
+enum-known-turn-3 c = search needs
+
+sub-left : tie.Need-sub-left Inv-loop μ-loop
+sub-left c = omega (arith, grew-most _ _ _ _ _ _ _ _ (c .before .before .before .take-turn .ensures) _ (c .before .turn3 .given .1))
+
+add-growth : tie.Need-add-growth Inv-loop μ-loop
+add-growth c = omega (arith, grew-most _ _ _ _ _ _ _ _ (c .before .before .before .take-turn .ensures) _ (c .before .turn3 .given .1))
+
+add-steps : tie.Need-add-steps Inv-loop μ-loop
+add-steps c = omega (arith, grew-most _ _ _ _ _ _ _ _ (c .before .before .before .take-turn .ensures) _ (c .before .turn3 .given .1), grew-some _ _ _ _ _ _ _ _ (c .before .before .before .take-turn .ensures) _ (c .before .turn3 .given .1))
+
+repeats-requires : tie.Need-repeats-requires Inv-loop μ-loop
+repeats-requires c κs = grew-some _ _ _ _ _ _ _ _ (c .before .before .before .before .before .take-turn .ensures) _ (c .before .before .before .turn3 .given .1)
+
+mul-left : tie.Need-mul-left Inv-loop μ-loop
+mul-left c = omega (arith, grew-most _ _ _ _ _ _ _ _ (c .before .before .before .before .before .before .take-turn .ensures) _ (c .before .before .before .before .turn3 .given .1), c .repeats .ensures .fits)
+
+sub-left-2 : tie.Need-sub-left-2 Inv-loop μ-loop
+sub-left-2 c = omega (arith, grew-most _ _ _ _ _ _ _ _ (c .before .before .before .before .before .before .take-turn .ensures) _ (c .before .before .before .before .turn3 .given .1), c .repeats .ensures .fits)
+
+mul-growth : tie.Need-mul-growth Inv-loop μ-loop
+mul-growth c = omega (arith, grew-most _ _ _ _ _ _ _ _ (c .before .before .before .before .before .before .take-turn .ensures) _ (c .before .before .before .before .turn3 .given .1), c .repeats .ensures .fits)
+
+add-growth-2 : tie.Need-add-growth-2 Inv-loop μ-loop
+add-growth-2 c = omega (arith, grew-most _ _ _ _ _ _ _ _ (c .before .before .before .before .before .before .take-turn .ensures) _ (c .before .before .before .before .turn3 .given .1), c .repeats .ensures .fits)
+
+add-steps-2 : tie.Need-add-steps-2 Inv-loop μ-loop
+add-steps-2 c = omega (arith, grew-most _ _ _ _ _ _ _ _ (c .before .before .before .before .before .before .take-turn .ensures) _ (c .before .before .before .before .turn3 .given .1), grew-some _ _ _ _ _ _ _ _ (c .before .before .before .before .before .before .take-turn .ensures) _ (c .before .before .before .before .turn3 .given .1), c .repeats .ensures .fits, at-least (c .repeats .ensures) (grew-some _ _ _ _ _ _ _ _ (c .before .before .before .before .before .before .take-turn .ensures) _ (c .before .before .before .before .turn3 .given .1)))
+
+loop-less : tie.Need-loop-less Inv-loop μ-loop
+loop-less c = omega (arith, grew-most _ _ _ _ _ _ _ _ (c .before .before .before .before .before .before .take-turn .ensures) _ (c .before .before .before .before .turn3 .given .1), grew-some _ _ _ _ _ _ _ _ (c .before .before .before .before .before .before .take-turn .ensures) _ (c .before .before .before .before .turn3 .given .1))
+
+loop-again : tie.Need-loop-again Inv-loop μ-loop
+loop-again c = (
+  leaps _ _ _ _ _ _ _ _ _ _ _ _ (c .before .before .before .before .before .before .before .before .before .before .loop .inv .0) (c .before .before .before .before .before .before .take-turn .ensures) (c .before .before .before .before .turn3 .given .1) _ (c .repeats .ensures),
+  omega (arith, grew-most _ _ _ _ _ _ _ _ (c .before .before .before .before .before .before .take-turn .ensures) _ (c .before .before .before .before .turn3 .given .1), c .repeats .ensures .fits),
+  omega (arith, grew-some _ _ _ _ _ _ _ _ (c .before .before .before .before .before .before .take-turn .ensures) _ (c .before .before .before .before .turn3 .given .1), at-least (c .repeats .ensures) (grew-some _ _ _ _ _ _ _ _ (c .before .before .before .before .before .before .take-turn .ensures) _ (c .before .before .before .before .turn3 .given .1))),
+)
+
+pub find-obstacle-spec : {M : Type 1} → statement M
+find-obstacle-spec =
+    tie.close
+    (tie.spec
+    Inv-loop
+    μ-loop
+    loop-holds
+    take-turn-requires
+    enum-known-turn
+    returns
+    enum-known-turn-2
+    returns-2
+    enum-known-turn-3
+    sub-left
+    add-growth
+    add-steps
+    repeats-requires
+    mul-left
+    sub-left-2
+    mul-growth
+    add-growth-2
+    add-steps-2
+    loop-less
+    loop-again)

@@ -1,0 +1,4 @@
+pub mod Next
+pub mod Turn
+pub mod Seek
+pub mod Repeats

@@ -1,0 +1,3 @@
+// Document 01, "Search", on lent tables.
+pub mod search;
+mod turn;

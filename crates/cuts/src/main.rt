@@ -1,0 +1,111 @@
+// Replays each session of standard input in chunks of 1 to 17 bytes, so that records are cut at every place, and writes the listings with a line
+// `=` between them.
+use batch::Next;
+use batch::next_session;
+use listing::bad_line;
+use listing::first_line;
+use rules::graph::Graph;
+use rules::graph::Opening;
+use rules::refusal::Refusal;
+use rules::state::State;
+use session::end_of_input;
+use session::run_chunk;
+ghost use Prim.Native.Nat.{_≤_};
+ghost use lib.ListN.{length};
+
+fn lesser(n: usize, most: usize) -> usize
+    ensures { λ r. ⌜ (r ≤ n) × (r ≤ most) ⌝ }
+{
+    if n < most { n } else { most }
+}
+
+fn put(text: &[u8], n: usize) {
+    let length = lesser(n, text.len());
+    io::write_all(libc::STDOUT_FILENO, &text[0..length]);
+}
+
+fn show_refusal(out: &mut [u8], why: Refusal) {
+    let n = bad_line(out, 0, why);
+    put(out, n);
+}
+
+// A number of vertices, edges or units: an image has at most 1,024 of each.
+fn count(n: usize) -> u32 {
+    if n < 1_024 { n as u32 } else { 1_024 }
+}
+
+fn show_head(out: &mut [u8], graph: Graph, units: usize) {
+    let n = first_line(out, 0, count(graph.nv), count(graph.ne), count(units));
+    put(out, n);
+}
+
+fn show_end(out: &mut [u8], left: usize) {
+    let n = end_of_input(left, out);
+    put(out, n);
+}
+
+// Each chunk is longer than the one before it, up to 17 bytes, so the records get on.
+fn show_records(graph: Graph, first: State, session: &[u8], start: usize, out: &mut [u8]) {
+    let mut state = first;
+    let mut from = lesser(start, session.len());
+    let mut piece: usize = 1;
+    let mut turns = u64::MAX;
+    while 0 < turns {
+        turns -= 1;
+        let to = from + lesser(piece, session.len() - from);
+        let done = run_chunk(graph, state, &session[from..to], out);
+        state = done.state;
+        from += done.used;
+        put(out, done.written);
+        if done.ended {
+            return;
+        }
+        if piece == 17 {
+            if done.used == 0 {
+                show_end(out, session.len() - from);
+                return;
+            }
+        }
+        piece = piece % 17 + 1;
+    }
+}
+
+fn show(session: &[u8], out: &mut [u8]) {
+    let decoder = comb::open(session);
+    let opening = decoder.opening;
+    match opening {
+        Opening::Refused(why) => show_refusal(out, why),
+        Opening::Accepted { units, start } => {
+            let graph = decoder.graph;
+            let state = decoder.state;
+            show_head(out, graph, units);
+            show_records(graph, state, session, start, out);
+        }
+    }
+}
+
+fn show_all(session: &mut [u8], out: &mut [u8]) {
+    let mut turns = u64::MAX;
+    while 0 < turns {
+        let Next::Session(n) = next_session(session) else {
+            return;
+        };
+        if turns < u64::MAX {
+            io::write_all(libc::STDOUT_FILENO, b"=\n");
+        }
+        let length = lesser(n, session.len());
+        show(&session[0..length], out);
+        turns -= 1;
+    }
+}
+
+// A buffer whose bytes no proof looks into.
+fn room() -> [u8; 1048576] {
+    [0u8; 1048576]
+}
+
+fn main() {
+    let mut session = room();
+    let mut out = io::large_buffer();
+    show_all(&mut session, &mut out);
+}

@@ -1,0 +1,5 @@
+pub mod Records
+pub mod Flags
+pub mod Turns
+pub mod Again
+pub mod Ends

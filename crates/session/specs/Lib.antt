@@ -1,0 +1,3 @@
+pub mod Chunk
+pub mod Cuts
+pub mod Ran
