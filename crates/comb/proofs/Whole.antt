@@ -8,6 +8,7 @@ use Rattle.rules.specs.Graph.{inUse}
 use Rattle.rules.specs.State.{withMaximum, freshRegisters, freshState, firstState, reset}
 use Rattle.rules.specs.Image.{opened}
 use Rattle.rules.specs.Instruct.{step, concluded, settled, instruct, wordRun}
+use Rattle.rules.specs.Pairs.{pairs, listed, buffered}
 use Rattle.rules.specs.Search.{Ended, begun, told, search, searchOn, searchTo}
 use Rattle.rules.specs.declared.graph.Graph.{Graph}
 use Rattle.rules.specs.declared.graph.Opened.{Opened}
@@ -15,6 +16,7 @@ use Rattle.rules.specs.declared.state.State.{State}
 use Rattle.rules.specs.declared.state.Searched.{Searched}
 use Rattle.rules.specs.declared.finding.Answer.{Answer}
 use Rattle.rules.specs.declared.finding.WordAnswer.{WordAnswer}
+use Rattle.rules.specs.declared.finding.Listed.{Listed}
 use Rattle.rules.specs.declared.finding.Sought.{Sought}
 use Rattle.rules.specs.declared.instruction.Instruction.{Instruction}
 use Rattle.places.specs.Places.{placed}
@@ -24,6 +26,7 @@ use Rattle.comb_cycle.specs.Lent.{Ready, graphOf}
 use Rattle.comb_cycle.specs.declared.cycle.Counts.{Counts}
 use Rattle.comb_search.specs.Seek.{searchedAs}
 use Rattle.comb_lent.specs.Calls.{wordedAs, instructed, worded, instruct-is, word-is}
+use Rattle.comb_lent.specs.Raised.{withPairs}
 use Rattle.comb_lent.specs.Tables.{countsOf, tables-ready, tables-in-use}
 use Rattle.comb_lent.specs.Whole.{graphIn, all-in-use, same-walk}
 use Rattle.comb.specs.Decoder.{decoderOf}
@@ -38,7 +41,7 @@ pub opens : (o : Opened) (bs : List ℕ) (s : State) → o ≡ opened bs → s �
     → record { graph = o .graph; state = s; opening = o .opening } ≡ decoderOf (opened bs)
 opens o bs s p q = rw (q, ← p)
 
-module _ (g : Graph) (p : Places) (c : Counts) (made : p ≡ placed (g .edges) (min (g .ne) 1_024)) (counted : c ≡ countsOf (g .nv) (p .ne) (g .nu)) where
+module _ (g : Graph) (p : Places) (c : Counts) (made : p ≡ placed (g .edges) (min (g .ne) 1_024)) (counted : c ≡ countsOf (g .nv) (p .ne) (p .reach) (g .nu)) where
   abbrev lent : Graph
   lent = graphOf c (g .vertices) (g .edges) (g .units)
 
@@ -83,3 +86,12 @@ module _ (g : Graph) (p : Places) (c : Counts) (made : p ≡ placed (g .edges) (
     pub searches-to : (m : ℕ) → searchedAs rs (s .weights) stalled left a ≡ searchTo lent s m → searchedAs rs (s .weights) stalled left a ≡ searchTo g s m
     unfolding searchTo
     searches-to m e = e ∙ rw (search-whole (withMaximum m s))
+
+-- a state's pairs are those of its flags
+pub lists : (s : State) (room : ℕ) (a : Listed) → a ≡ listed (withPairs (s .stalled)) room → a ≡ listed s room
+unfolding listed pairs
+lists s room a e = e
+
+pub buffers : (s : State) (x y : List ℕ) → y ≡ buffered (withPairs (s .stalled)) x → y ≡ buffered s x
+unfolding buffered pairs
+buffers s x y e = e

@@ -1,13 +1,13 @@
 // The decoder: a graph, and a state by value that each call takes and gives back. Every value of either is answered.
-mod pairs;
-
+use comb_cycle::cycle::no_flags;
 use comb_lent::counts::counts_of;
 use comb_lent::instruct::instruct;
+use comb_lent::pairs;
 use comb_lent::reset::fresh_registers;
-use comb_lent::reset::no_flags;
 use comb_lent::search;
 use comb_lent::word::carry_word;
 use places::place_edges;
+use rules::finding::Listed;
 use rules::graph::Graph;
 use rules::graph::Opening;
 use rules::instruction::Instruction;
@@ -16,12 +16,13 @@ use rules::state::Searched;
 use rules::state::State;
 use rules::state::WordCycle;
 ghost use mathlib.Core.Path.{_≡_};
+ghost use lib.ListN.{length};
 ghost use Rattle.rules.specs.Image as Image;
 ghost use Rattle.rules.specs.Instruct as Instruct;
+ghost use Rattle.rules.specs.Pairs as Pairs;
 ghost use Rattle.rules.specs.Search as Search;
 ghost use Rattle.rules.specs.State as Fresh;
 ghost use Rattle.comb.specs.Decoder.{decoderOf};
-pub use pairs::list_pairs;
 
 // A refused image opens no decoder: its graph is blank.
 pub struct Decoder {
@@ -77,7 +78,7 @@ pub fn execute(graph: Graph, state: State, instruction: Instruction) -> Cycle
     let mut registers = state.registers;
     let mut stalled = state.stalled;
     let answer = instruct(
-        counts_of(graph.nv, placed.ne, graph.nu),
+        counts_of(graph.nv, placed.ne, placed.reach, graph.nu),
         &graph.vertices,
         &graph.edges,
         &graph.units,
@@ -108,7 +109,7 @@ pub fn execute_word(graph: Graph, state: State, word: u32) -> WordCycle
     let mut weights = state.weights;
     let mut stalled = state.stalled;
     let answer = carry_word(
-        counts_of(graph.nv, placed.ne, graph.nu),
+        counts_of(graph.nv, placed.ne, placed.reach, graph.nu),
         &graph.vertices,
         &graph.edges,
         &graph.units,
@@ -140,7 +141,7 @@ pub fn search_on(graph: Graph, state: State) -> Searched
     let mut registers = state.registers;
     let mut stalled = state.stalled;
     let found = search::search_on(
-        counts_of(graph.nv, placed.ne, graph.nu),
+        counts_of(graph.nv, placed.ne, placed.reach, graph.nu),
         &graph.vertices,
         &graph.edges,
         &graph.units,
@@ -172,7 +173,7 @@ pub fn search_to(graph: Graph, state: State, maximum: u32) -> Searched
     let mut registers = state.registers;
     let mut stalled = state.stalled;
     let found = search::search_to(
-        counts_of(graph.nv, placed.ne, graph.nu),
+        counts_of(graph.nv, placed.ne, placed.reach, graph.nu),
         &graph.vertices,
         &graph.edges,
         &graph.units,
@@ -195,4 +196,12 @@ pub fn search_to(graph: Graph, state: State, maximum: u32) -> Searched
         state: after,
         answer,
     }
+}
+
+pub fn list_pairs(state: State, buffer: &mut [u16]) -> Listed
+    ensures { λ r. ⌜ r ≡ Pairs.listed state (length (now (buffer .entry))) ⌝ }
+    ensures { λ r. ⌜ now (buffer .exit) ≡ Pairs.buffered state (now (buffer .entry)) ⌝ }
+{
+    let stalled = state.stalled;
+    pairs::list_pairs(&stalled, buffer)
 }

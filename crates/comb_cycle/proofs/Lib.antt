@@ -1,3 +1,6 @@
+pub mod Strengths
+pub mod Answers
+pub mod Covered
 pub mod Responds
 pub mod Staging
 pub mod Showing

@@ -1,92 +1,114 @@
--- The loop over the edges, over variables: while no edge is odd the finding so far is held; the first odd edge decides.
-use Prim.Native.Nat.{ℕ, zero, suc, _+_, _≤_, _<_, min}
+-- Each turn of a walk takes in one report more, or none where the vertex does not grow; at its end a walk has what all edges report, and the
+-- strongest report is the answer. Over variables.
+use Prim.Native.Nat.{ℕ, _+_, _*_, _≤_, _<_}
 use mathlib.Core.Path.{_≡_, refl, sym, ap, _∙_}
-use mathlib.Core.Bool.{Bool, true, false}
+use mathlib.Core.Bool.{Bool, true, false, not}
 use mathlib.Core.List.{List, [], _∷_}
-use native.Mathlib.Decide.{le-ind}
 use native.Mathlib.Numerals.{add-one}
 use native.Mathlib.Omega.{arith}
 use types.Run.{OneOf}
 use denote.Enum.Declared.{tagOf}
 use lib.ListN.{getD}
-use Rattle.laws.specs.Choice.{_or_, pick}
+use borrow.Author.Tests.{not-true, not-false}
+use Rattle.laws.specs.Choice.{pick}
 use Rattle.laws.specs.Fold.{upTo}
-use Rattle.rules.specs.Respond.{edgeResponse}
-use Rattle.rules.specs.Reduce.{reduce, odd, reported, someOdd}
-use Rattle.rules.specs.declared.finding.Finding.{Finding}
-use Rattle.rules.specs.declared.finding.Finding.the-variants.{GrowLength}
+use Rattle.laws.specs.Semilattice.{joined}
+use Rattle.rules.specs.Registers.{at, growing, view}
+use Rattle.rules.specs.Reduce.{reduce}
+use Rattle.rules.specs.declared.index.EdgeIndex.{EdgeIndex}
+use Rattle.rules.specs.declared.instruction.CompactGrowState.the-variants.{Stay, Grow, Shrink}
 use Rattle.rules.specs.declared.finding.Length.the-variants.{NoLimit}
+use Rattle.rules.specs.declared.finding.Finding.{Finding}
 use Rattle.rules.specs.declared.finding.Response.{Response}
 use Rattle.rules.specs.declared.finding.Response.the-variants.{Reports, OddRemaining}
 use Rattle.rules.proofs.finding.Response.{the-type}
-use Rattle.comb_edge.specs.Edge.{idleBy, meetingBy}
-use Rattle.comb_edge.specs.Tables.{response-by}
-use Rattle.comb_settle.specs.Reports.{no-limit}
-use Rattle.comb_cycle.specs.Responses.{findingTo, responded}
+use Rattle.places.specs.Ends.{Ends}
+use Rattle.places.specs.Places.{edgeIn}
+use Rattle.places.specs.Wired.{Wired}
+use Rattle.comb_cycle.specs.Responses.{responded}
+use Rattle.comb_cycle.specs.Strongest.{stronger, strongestOf, report, strongest, strongestAt, answer, reducedWith}
+use Rattle.comb_cycle.specs.declared.report.Report.{Report}
+use Rattle.comb_cycle.specs.declared.report.Report.the-variants.{Odd, Conflict, Length}
+use Rattle.comb_cycle.proofs.report.Report as Reported
+use Rattle.comb_cycle.proofs.Strengths.{strengths}
+use Rattle.comb_cycle.proofs.Answers.{conflict-below, answered}
+use Rattle.comb_cycle.proofs.Covered.{placeReport, places-strongest, heard, heard-strongest}
 
-or-true : (b : Bool) → (b or true) ≡ true
-unfolding _or_
-or-true true = refl
-or-true false = refl
+pub walk-begins : (f : ℕ → Report) → Length NoLimit ≡ strongestOf f 0
+unfolding strongestOf joined upTo
+walk-begins f = refl
 
-true-or : (b : Bool) → (true or b) ≡ true
-unfolding _or_
-true-or b = refl
+-- one report more
+one-more : (f : ℕ → Report) (k : ℕ) {a x b : Report} → b ≡ stronger a x → x ≡ f k → a ≡ strongestOf f k → b ≡ strongestOf f (k + 1)
+unfolding strongestOf joined upTo
+one-more f k p q h = rw (add-one k, ← h, ← q) p
+
+-- ---- over the places of v, from start on
+
+module _ (start : Report) where
+  pub places-begin : (f : ℕ → Report) → start ≡ stronger start (strongestOf f 0)
+  unfolding strongestOf joined upTo
+  places-begin f = sym (strengths .unit start)
+
+  module _ (es fs ys ss ps : List ℕ) where
+    pub place-turn : (v k : ℕ) {x a b : Report} → x ≡ report es fs ys ss (edgeIn (getD ps (v * 16 + k) 0)) → b ≡ stronger a x
+        → a ≡ stronger start (strongestOf (placeReport es fs ys ss ps v) k) → b ≡ stronger start (strongestOf (placeReport es fs ys ss ps v) (k + 1))
+    unfolding placeReport
+    place-turn v k {x} {a} q p h =
+        let f = placeReport es fs ys ss ps v in
+        rw (p, h) (strengths .assoc start (strongestOf f k) x) ∙ ap (stronger start) (one-more f k refl q refl)
+
+    pub places-end : (v k ne : ℕ) {ds : List ℕ} {a : Report} → a ≡ stronger start (strongestOf (placeReport es fs ys ss ps v) k) → k ≤ getD ds v 0 → getD ds v 0 ≤ k
+        → Wired es ne ps ds → v < 256 → a ≡ stronger start (strongestAt es fs ys ss ne v)
+    places-end v k ne {ds} h i j w u =
+        let z : k ≡ getD ds v 0 = omega arith in h ∙ rw z (ap (stronger start) (places-strongest es fs ys ss w v u))
+
+-- ---- over the vertices
+
+-- the speed of code 1 alone grows
+pub grows-by : (b c : Bool) → b ≡ growing (pick b Grow (pick c Shrink Stay))
+unfolding pick
+grows-by true c = refl
+grows-by false true = refl
+grows-by false false = refl
+
+module _ (es fs ys ss : List ℕ) (ne : ℕ) where
+  module _ (v : ℕ) {g : Bool} (is : g ≡ growing (view (getD ss v 0) .speed)) where
+    pub still-turn : not g ≡ true → {a : Report} → a ≡ strongestOf (heard es fs ys ss ne) v → a ≡ strongestOf (heard es fs ys ss ne) (v + 1)
+    unfolding heard at pick
+    still-turn n {a} h = one-more (heard es fs ys ss ne) v (sym (strengths .unit a)) (rw (← is, not-true g n)) h
+
+    pub grown-turn : not g ≡ false → {a b : Report} → b ≡ stronger a (strongestAt es fs ys ss ne v) → a ≡ strongestOf (heard es fs ys ss ne) v
+        → b ≡ strongestOf (heard es fs ys ss ne) (v + 1)
+    unfolding heard at pick
+    grown-turn n p h = one-more (heard es fs ys ss ne) v p (rw (← is, not-false g n)) h
+
+  pub vertices-end : (v r : ℕ) {a : Report} → a ≡ strongestOf (heard es fs ys ss ne) v → v ≤ r → r ≤ v → Ends es ne r → a ≡ strongest es fs ys ss ne
+  vertices-end v r h i j ends = let z : v ≡ r = omega arith in h ∙ rw z (heard-strongest es fs ys ss ne r ends)
+
+-- ---- what is answered
+
+-- the strongest conflict is of an edge in the tables
+pub conflict-inside : (es fs ys ss : List ℕ) {x : Report} {e : EdgeIndex} {n : ℕ} → x ≡ strongest es fs ys ss n → x ≡ Conflict e → n ≤ 1_024 → e .0 < 1_024
+conflict-inside es fs ys ss {x} {e} {n} p q l = let below : e .0 < n = conflict-below es fs ys ss n e (sym q ∙ p) in omega arith
+
+pub says-odd : (es fs ys ss : List ℕ) (x : Report) → OneOf (0 ∷ []) (tagOf Reported.the-type x) → OddRemaining ≡ answer es fs ys ss x
+says-odd es fs ys ss Odd t = refl
+says-odd es fs ys ss (Conflict e) t = absurd (omega arith)
+says-odd es fs ys ss (Length l) t = absurd (omega arith)
 
 is-odd : (r : Response) → OneOf (1 ∷ []) (tagOf the-type r) → r ≡ OddRemaining
 is-odd (Reports f) t = absurd (omega arith)
 is-odd OddRemaining t = refl
 
-pub none-odd-yet : (es fs ys ss : List ℕ) → someOdd es fs ys ss 0 ≡ false
-unfolding someOdd upTo
-none-odd-yet es fs ys ss = refl
+module _ (es fs ys ss : List ℕ) (ne : ℕ) {x : Report} {r : Response} (says : r ≡ answer es fs ys ss x) (is : x ≡ strongest es fs ys ss ne) where
+  responds-by : (start : Finding) → reducedWith start r ≡ responded es fs ys ss ne start
+  responds-by start = rw (says, is) (answered es fs ys ss ne start)
 
-pub none-found-yet : (es fs ys ss : List ℕ) (start : Finding) → start ≡ findingTo es fs ys ss start 0
-unfolding findingTo upTo
-none-found-yet es fs ys ss start = refl
+  pub responds-odd : (start : Finding) → OneOf (1 ∷ []) (tagOf the-type r) → OddRemaining ≡ responded es fs ys ss ne start
+  responds-odd start t = ap (reducedWith start) (sym (is-odd r t)) ∙ responds-by start
 
-module _ (es fs ys ss : List ℕ) where
-  pub all-even : (start f : Finding) (e n m : ℕ) → f ≡ findingTo es fs ys ss start e → someOdd es fs ys ss e ≡ false → n ≡ m → e ≤ n → n ≤ e
-      → Reports f ≡ responded es fs ys ss m start
-  unfolding responded pick
-  all-even start f e n m so even z l k = let q : e ≡ m = omega arith in rw (← q, even, so)
+  pub responds-found : (start : Finding) {g h : Finding} → r ≡ Reports g → h ≡ reduce start g → Reports h ≡ responded es fs ys ss ne start
+  responds-found start q p = ap Reports p ∙ ap (reducedWith start) (sym q) ∙ responds-by start
 
-  -- an idle edge
-  module _ (e : ℕ) (b : Bool) (i : b ≡ idleBy (getD es e 0) ss) (t : b ≡ true) where
-    idle-is : edgeResponse es fs ys ss e ≡ Reports (GrowLength NoLimit)
-    unfolding pick
-    idle-is = response-by es e ys fs ss ∙ rw (← i, t)
-
-    pub idle-even : someOdd es fs ys ss e ≡ false → someOdd es fs ys ss (e + 1) ≡ false
-    unfolding someOdd upTo _or_
-    idle-even even = rw (add-one e, even, idle-is)
-
-    pub idle-found : (start f : Finding) → f ≡ findingTo es fs ys ss start e → f ≡ findingTo es fs ys ss start (e + 1)
-    unfolding findingTo upTo
-    idle-found start f so = rw (add-one e, idle-is) (so ∙ sym (no-limit _))
-
-  -- any other
-  module _ (e : ℕ) (r : Response) (is : r ≡ meetingBy (getD es e 0) ys ss (getD fs e 0)) (b : Bool) (i : b ≡ idleBy (getD es e 0) ss) (o : b ≡ false) where
-    edge-is : edgeResponse es fs ys ss e ≡ r
-    unfolding pick
-    edge-is = response-by es e ys fs ss ∙ rw (← i, o, is)
-
-    pub still-even : (g : Finding) → r ≡ Reports g → someOdd es fs ys ss e ≡ false → someOdd es fs ys ss (e + 1) ≡ false
-    unfolding someOdd upTo _or_
-    still-even g p even = let q : edgeResponse es fs ys ss e ≡ Reports g = edge-is ∙ p in rw (add-one e, even, q)
-
-    pub found-more : (g : Finding) → r ≡ Reports g → (start f h : Finding) → h ≡ reduce f g → f ≡ findingTo es fs ys ss start e → h ≡ findingTo es fs ys ss start (e + 1)
-    unfolding findingTo upTo
-    found-more g p start f h w so = let q : edgeResponse es fs ys ss e ≡ Reports g = edge-is ∙ p in rw (add-one e, q, w, so)
-
-    odd-later : r ≡ OddRemaining → (n : ℕ) → e < n → someOdd es fs ys ss n ≡ true
-    unfolding someOdd upTo
-    odd-later p n l =
-        let q : edgeResponse es fs ys ss e ≡ OddRemaining = edge-is ∙ p in
-        le-ind (λ (m : ℕ). someOdd es fs ys ss m ≡ true) (rw q (or-true (someOdd es fs ys ss e))) (λ m k h. rw h (true-or _)) n l
-
-    pub first-odd : (start : Finding) (n m : ℕ) → OneOf (1 ∷ []) (tagOf the-type r) → n ≡ m → e < n → OddRemaining ≡ responded es fs ys ss m start
-    unfolding responded pick
-    first-odd start n m t z l = rw (odd-later (is-odd r t) m (omega arith))
-
-pub ruleset responds = (none-odd-yet, none-found-yet, all-even, idle-even, idle-found, still-even, found-more, first-odd)
+pub ruleset responds = (walk-begins, places-begin, place-turn, places-end, still-turn, grown-turn, vertices-end, responds-odd, responds-found)

@@ -2,3 +2,4 @@ pub mod Cycled
 pub mod Lent
 pub mod Responses
 pub mod Stages
+pub mod Strongest

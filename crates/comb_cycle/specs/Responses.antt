@@ -1,16 +1,10 @@
 -- Stages 7 and 8 over all edges, as one answer: 16, or the finding. start is what the vertices found.
-use Prim.Native.Nat.{ℕ, zero, suc, _+_, _≤_, _<_}
-use mathlib.Core.Path.{_≡_, refl, sym, ap, _∙_}
-use mathlib.Core.Bool.{Bool, true, false}
+use Prim.Native.Nat.{ℕ}
 use mathlib.Core.List.{List}
-use native.Mathlib.Decide.{le-ind}
-use native.Mathlib.Numerals.{add-one}
-use native.Mathlib.Omega.{arith}
-use lib.ListN.{getD}
-use Rattle.laws.specs.Choice.{_or_, pick}
-use Rattle.laws.specs.Fold.{upTo, anyTo}
+use Rattle.laws.specs.Choice.{pick}
+use Rattle.laws.specs.Fold.{upTo}
 use Rattle.rules.specs.Respond.{edgeResponse}
-use Rattle.rules.specs.Reduce.{reduce, odd, reported, someOdd}
+use Rattle.rules.specs.Reduce.{reduce, reported, someOdd}
 use Rattle.rules.specs.declared.finding.Finding.{Finding}
 use Rattle.rules.specs.declared.finding.Response.{Response}
 use Rattle.rules.specs.declared.finding.Response.the-variants.{Reports, OddRemaining}

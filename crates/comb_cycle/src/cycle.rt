@@ -1,20 +1,29 @@
 // One instruction's cycle on lent tables: stages 1 to 8.
 use crate::stages;
 use comb_vertex::execute::Execution;
-use comb_vertex::execute::execute;
 use rules::finding::Answer;
 use rules::finding::Response;
 use rules::instruction::Instruction;
 use rules::refusal::Refusal;
+ghost use mathlib.Core.Bool.{false};
 ghost use mathlib.Core.Path.{_≡_};
+ghost use lib.ListN.{replicate};
 ghost use Rattle.comb_cycle.specs.Cycled.{cycled, cycledAs};
 ghost use Rattle.comb_cycle.specs.Lent.{Ready, graphOf};
 
-// How many vertices, edges and units are in use.
+// How many vertices, edges and units are in use, and how far the edges reach: none in use ends at `reach` or beyond.
 pub struct Counts {
     pub nv: usize,
     pub ne: usize,
     pub nu: usize,
+    pub reach: usize,
+}
+
+// A pair list that is empty.
+pub fn no_flags() -> [bool; 1024]
+    ensures { λ r. ⌜ r ≡ replicate 1_024 false ⌝ }
+{
+    [false; 1024]
 }
 
 // A cycle that is refused leaves registers and flags as they were.
@@ -33,15 +42,13 @@ pub fn run_cycle<'a>(
     requires { ⌜ Ready counts (now edges) (now places) (now degrees) ⌝ }
     ensures { λ r. ⌜ cycledAs (now (registers .exit)) (now (stalled .exit)) r ≡ cycled (graphOf counts (now (vertices .entry)) (now (edges .entry)) (now (units .entry))) (now (registers .entry)) (now (weights .entry)) (now (stalled .entry)) instruction ⌝ }
 {
-    let mut fetched = stages::no_weights();
-    stages::fetch_all(edges, weights, registers, counts.ne, &mut fetched);
     let mut still = stages::no_vertices();
-    let mut held = stages::no_edges();
+    let mut held = no_flags();
     stages::stall_units(
         units,
         counts.nu,
         edges,
-        &fetched,
+        weights,
         registers,
         places,
         degrees,
@@ -51,7 +58,7 @@ pub fn run_cycle<'a>(
     );
     let before = *registers;
     let mut executed = before;
-    let execution = execute(
+    let execution = stages::execute_all(
         vertices,
         &before,
         &still,
@@ -67,11 +74,13 @@ pub fn run_cycle<'a>(
                 places,
                 degrees,
                 edges,
-                &fetched,
+                weights,
+                &before,
+                counts.ne,
                 &executed,
                 &still,
-                counts.ne,
                 counts.nv,
+                counts.reach,
                 registers,
             );
             match response {

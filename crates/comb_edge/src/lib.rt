@@ -1,6 +1,7 @@
-// Stages 1 and 7 of one edge, from its entry in the graph, its fetch weight and the vertices' registers, and the table of fetch weights.
+// Stages 1 and 7 of one edge, from its entry in the graph, its fetch weight and the vertices' registers.
 use rules::finding::Length;
 use rules::finding::Response;
+use rules::graph::at_most;
 use rules::index::VertexIndex;
 use rules::registers::VertexRegisters;
 use rules::registers::view;
@@ -9,9 +10,9 @@ pub mod length;
 pub mod respond;
 
 ghost use mathlib.Core.Path.{_≡_};
-ghost use Prim.Native.Nat.{_/_, _%_, _<_, min};
-ghost use Rattle.laws.specs.Table.{paint};
-ghost use Rattle.rules.specs.Fetch.{fetchWeight};
+ghost use Prim.Native.Nat.{_/_, _%_, _<_};
+ghost use lib.ListN.{getD};
+ghost use Rattle.rules.specs.Fetch.{fetched};
 ghost use Rattle.rules.specs.Registers as Registers;
 ghost use Rattle.comb_edge.specs.Edge.{farEndBy, reducedBy, weightBy, grownBy, tightBy, countedTightBy, remainingBy, idleBy, meetingBy};
 
@@ -125,26 +126,18 @@ pub fn meeting(edge: u32, fetched: u32, registers: &[u64; 256], shadows: &[u64; 
     )
 }
 
-fn at_most_1024(n: usize) -> usize
-    ensures { λ r. ⌜ r ≡ min n 1_024 ⌝ }
-{
-    if n < 1_024 { n } else { 1_024 }
-}
-
-// The fetch weights of the first ne edges, into a lent table.
-pub fn fetch(
+// The fetch weight of edge e; 0 for one that is not in use.
+pub fn fetch_weight(
+    e: usize,
     edges: &[u32; 1024],
     weights: &[u32; 1024],
-    registers: &[u64; 256],
+    before: &[u64; 256],
     ne: usize,
-    out: &mut [u32; 1024],
-)
-    ensures { λ r. ⌜ now (out .exit) ≡ paint (min ne 1_024) (fetchWeight (now (edges .entry)) (now (registers .entry)) (now (weights .entry))) (now (out .entry)) ⌝ }
+) -> u32
+    ensures { λ r. ⌜ r ≡ getD (fetched (now (edges .entry)) (now (before .entry)) (now (weights .entry)) ne) e 0 ⌝ }
 {
-    let n = at_most_1024(ne);
-    let mut e = 0;
-    while e < n {
-        out[e] = post_fetch_weight(edges[e], weights[e], registers);
-        e += 1;
+    if e < at_most(ne, 1_024) {
+        return post_fetch_weight(edges[e], weights[e], before);
     }
+    0
 }

@@ -1,3 +1,4 @@
 pub mod Limits
 pub mod Ends
 pub mod Blank
+pub mod Listing

@@ -3,3 +3,4 @@ pub mod Calls
 pub mod Fresh
 pub mod Again
 pub mod Tables
+pub mod Raised

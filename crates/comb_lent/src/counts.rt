@@ -1,21 +1,16 @@
-// The counts of the tables that are made of a graph, of which ne edges have their places.
+// The counts of the tables that are made of a graph, of which ne edges have their places, below reach.
 use comb_cycle::cycle::Counts;
+use rules::graph::at_most;
 ghost use mathlib.Core.Path.{_≡_};
-ghost use Prim.Native.Nat.{min};
 ghost use Rattle.comb_lent.specs.Tables.{countsOf};
 
-pub(crate) fn lesser(n: usize, most: usize) -> usize
-    ensures { λ r. ⌜ r ≡ min n most ⌝ }
-{
-    if n < most { n } else { most }
-}
-
-pub fn counts_of(nv: usize, ne: usize, nu: usize) -> Counts
-    ensures { λ r. ⌜ r ≡ countsOf nv ne nu ⌝ }
+pub fn counts_of(nv: usize, ne: usize, reach: usize, nu: usize) -> Counts
+    ensures { λ r. ⌜ r ≡ countsOf nv ne reach nu ⌝ }
 {
     Counts {
-        nv: lesser(nv, 256),
+        nv: at_most(nv, 256),
         ne,
-        nu: lesser(nu, 2_048),
+        nu: at_most(nu, 2_048),
+        reach,
     }
 }

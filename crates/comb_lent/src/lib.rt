@@ -1,7 +1,8 @@
-// The decoder's calls on lent tables: an instruction, a word, the searches.
+// The decoder's calls on lent tables: an instruction, a word, the searches, the pair list.
 mod bounds;
 pub mod counts;
 pub mod instruct;
+pub mod pairs;
 pub mod reset;
 pub mod search;
 pub mod word;

@@ -1,8 +1,7 @@
-// Fresh registers, and what a reset leaves of lent tables.
-use crate::counts::lesser;
+// The registers that a reset leaves.
 use comb_vertex::execute::has_layer;
+use rules::graph::at_most;
 use rules::registers::VertexRegisters;
-ghost use mathlib.Core.Bool.{false};
 ghost use mathlib.Core.Path.{_≡_};
 ghost use Prim.Native.Nat.{min};
 ghost use lib.ListN.{replicate};
@@ -14,12 +13,6 @@ fn no_registers() -> [u64; 256]
     ensures { λ r. ⌜ r ≡ replicate 256 0 ⌝ }
 {
     [0u64; 256]
-}
-
-pub fn no_flags() -> [bool; 1024]
-    ensures { λ r. ⌜ r ≡ replicate 1_024 false ⌝ }
-{
-    [false; 1024]
 }
 
 fn is_default_virtual(vertices: &[u32; 256], v: u8) -> bool
@@ -41,7 +34,7 @@ fn fresh_word(vertices: &[u32; 256], v: u8) -> u64
 pub fn fresh_registers(vertices: &[u32; 256], nv: usize) -> [u64; 256]
     ensures { λ r. ⌜ r ≡ State.freshRegisters (now (vertices .entry)) (min nv 256) ⌝ }
 {
-    let n = lesser(nv, 256);
+    let n = at_most(nv, 256);
     let mut out = no_registers();
     let mut v = 0;
     while v < n {

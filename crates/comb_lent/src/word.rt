@@ -1,8 +1,8 @@
 // A word on lent tables: 12, a reset, or the instruction that it carries.
 use crate::instruct::instruct;
 use crate::reset::fresh_registers;
-use crate::reset::no_flags;
 use comb_cycle::cycle::Counts;
+use comb_cycle::cycle::no_flags;
 use instruction::unpack;
 use rules::finding::Answer;
 use rules::finding::WordAnswer;

@@ -7,7 +7,7 @@ use rules::index::VertexIndex;
 ghost use mathlib.Core.Path.{_≡_};
 ghost use Prim.Native.Nat.{_<_};
 ghost use Rattle.laws.specs.Choice.{_and_};
-ghost use Rattle.rules.specs.Fetch.{tight};
+ghost use Rattle.rules.specs.Fetch.{fetched, tight};
 ghost use Rattle.rules.specs.Registers as Registers;
 ghost use Rattle.comb_offloading.specs.Vertex.{eagerBy};
 
@@ -17,11 +17,12 @@ pub(crate) fn meets_virtual<'a>(
     vertex: VertexIndex,
     regular: VertexIndex,
     edges: &'a [u32; 1024],
-    fetched: &'a [u32; 1024],
+    weights: &'a [u32; 1024],
     registers: &'a [u64; 256],
+    ne: usize,
 ) -> bool
     requires { ⌜ (edge .0 < 1_024) × (vertex .0 < 256) × (regular .0 < 256) ⌝ }
-    ensures { λ r. ⌜ r ≡ (Registers.at (now (registers .entry)) (vertex .0) .«is_virtual» and eagerBy (now (registers .entry)) (regular .0) and tight (now (edges .entry)) (now (registers .entry)) (now (fetched .entry)) (edge .0)) ⌝ }
+    ensures { λ r. ⌜ r ≡ (Registers.at (now (registers .entry)) (vertex .0) .«is_virtual» and eagerBy (now (registers .entry)) (regular .0) and tight (now (edges .entry)) (now (registers .entry)) (fetched (now (edges .entry)) (now (registers .entry)) (now (weights .entry)) ne) (edge .0)) ⌝ }
 {
     if !is_virtual(vertex, registers) {
         return false;
@@ -29,5 +30,5 @@ pub(crate) fn meets_virtual<'a>(
     if !is_eager(regular, registers) {
         return false;
     }
-    is_tight(edge, edges, fetched, registers)
+    is_tight(edge, edges, weights, registers, ne)
 }

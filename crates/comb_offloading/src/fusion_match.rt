@@ -7,6 +7,7 @@ use rules::index::EdgeIndex;
 use rules::index::VertexIndex;
 ghost use mathlib.Core.Path.{_≡_};
 ghost use Prim.Native.Nat.{_<_};
+ghost use Rattle.rules.specs.Fetch.{fetched};
 ghost use Rattle.rules.specs.Graph.{farEnd};
 ghost use Rattle.rules.specs.Units as Units;
 ghost use Rattle.places.specs.Wired.{Wired};
@@ -15,20 +16,20 @@ pub(crate) fn fusion_match<'a>(
     edge: EdgeIndex,
     conditioned: VertexIndex,
     edges: &'a [u32; 1024],
-    fetched: &'a [u32; 1024],
+    weights: &'a [u32; 1024],
     registers: &'a [u64; 256],
     places: &'a [u32; 4096],
     degrees: &'a [u8; 256],
     ne: usize,
 ) -> bool
     requires { ⌜ (edge .0 < 1_024) × (conditioned .0 < 256) × Wired (now edges) ne (now places) (now degrees) ⌝ }
-    ensures { λ r. ⌜ r ≡ Units.fusionMatch (now (edges .entry)) (now (registers .entry)) (now (fetched .entry)) ne (edge .0) (conditioned .0) (farEnd (now (edges .entry)) (conditioned .0) (edge .0)) ⌝ }
+    ensures { λ r. ⌜ r ≡ Units.fusionMatch (now (edges .entry)) (now (registers .entry)) (fetched (now (edges .entry)) (now (registers .entry)) (now (weights .entry)) ne) ne (edge .0) (conditioned .0) (farEnd (now (edges .entry)) (conditioned .0) (edge .0)) ⌝ }
 {
     let regular = peer_of(edge, conditioned, edges);
-    if !meets_virtual(edge, conditioned, regular, edges, fetched, registers) {
+    if !meets_virtual(edge, conditioned, regular, edges, weights, registers, ne) {
         return false;
     }
-    is_isolated(regular, edges, fetched, registers, places, degrees, ne)
+    is_isolated(regular, edges, weights, registers, places, degrees, ne)
 }
 
 pub(crate) fn stall_peer(

@@ -19,8 +19,10 @@ use crate::unit::edge_of;
 use crate::unit::unit_of;
 use crate::virtual_match::virtual_match;
 use rules::graph::OffloadingType;
+use rules::graph::at_most;
 ghost use mathlib.Core.Path.{_≡_};
 ghost use Prim.Native.Nat.{min};
+ghost use Rattle.rules.specs.Fetch.{fetched};
 ghost use Rattle.rules.specs.Units as Units;
 ghost use Rattle.places.specs.Wired.{Wired};
 ghost use Rattle.comb_offloading.specs.Unit.{Within};
@@ -29,24 +31,24 @@ ghost use Rattle.comb_offloading.specs.Offload.{stallsEdge, byUnit, byUn
 fn holds<'a>(
     unit: OffloadingType,
     edges: &'a [u32; 1024],
-    fetched: &'a [u32; 1024],
+    weights: &'a [u32; 1024],
     registers: &'a [u64; 256],
     places: &'a [u32; 4096],
     degrees: &'a [u8; 256],
     ne: usize,
 ) -> bool
     requires { ⌜ Within unit × Wired (now edges) ne (now places) (now degrees) ⌝ }
-    ensures { λ r. ⌜ r ≡ Units.holds (now (edges .entry)) (now (registers .entry)) (now (fetched .entry)) ne unit ⌝ }
+    ensures { λ r. ⌜ r ≡ Units.holds (now (edges .entry)) (now (registers .entry)) (fetched (now (edges .entry)) (now (registers .entry)) (now (weights .entry)) ne) ne unit ⌝ }
 {
     match unit {
         OffloadingType::DefectMatch { edge } => {
-            defect_match(edge, edges, fetched, registers, places, degrees, ne)
+            defect_match(edge, edges, weights, registers, places, degrees, ne)
         }
         OffloadingType::VirtualMatch { edge, vertex } => {
-            virtual_match(edge, vertex, edges, fetched, registers, places, degrees, ne)
+            virtual_match(edge, vertex, edges, weights, registers, places, degrees, ne)
         }
         OffloadingType::FusionMatch { edge, vertex } => {
-            fusion_match(edge, vertex, edges, fetched, registers, places, degrees, ne)
+            fusion_match(edge, vertex, edges, weights, registers, places, degrees, ne)
         }
     }
 }
@@ -55,7 +57,7 @@ fn holds<'a>(
 fn stall<'a>(
     unit: OffloadingType,
     edges: &'a [u32; 1024],
-    fetched: &'a [u32; 1024],
+    weights: &'a [u32; 1024],
     registers: &'a [u64; 256],
     places: &'a [u32; 4096],
     degrees: &'a [u8; 256],
@@ -63,7 +65,7 @@ fn stall<'a>(
     vertices: &mut [bool; 256],
 )
     requires { ⌜ Within unit × Wired (now edges) ne (now places) (now degrees) ⌝ }
-    ensures { λ r. ⌜ now (vertices .exit) ≡ Units.stalls (now (edges .entry)) (now (registers .entry)) (now (fetched .entry)) ne unit (now (vertices .entry)) ⌝ }
+    ensures { λ r. ⌜ now (vertices .exit) ≡ Units.stalls (now (edges .entry)) (now (registers .entry)) (fetched (now (edges .entry)) (now (registers .entry)) (now (weights .entry)) ne) ne unit (now (vertices .entry)) ⌝ }
 {
     match unit {
         OffloadingType::DefectMatch { edge } => stall_ends(edge, edges, vertices),
@@ -73,7 +75,7 @@ fn stall<'a>(
                 edge,
                 regular,
                 edges,
-                fetched,
+                weights,
                 registers,
                 places,
                 degrees,
@@ -89,7 +91,7 @@ fn stall<'a>(
 fn offload_unit<'a>(
     unit: OffloadingType,
     edges: &'a [u32; 1024],
-    fetched: &'a [u32; 1024],
+    weights: &'a [u32; 1024],
     registers: &'a [u64; 256],
     places: &'a [u32; 4096],
     degrees: &'a [u8; 256],
@@ -98,16 +100,16 @@ fn offload_unit<'a>(
     stalled: &mut [bool; 1024],
 )
     requires { ⌜ Within unit × Wired (now edges) ne (now places) (now degrees) ⌝ }
-    ensures { λ r. ⌜ now (vertices .exit) ≡ byUnit (now (edges .entry)) (now (registers .entry)) (now (fetched .entry)) ne (Units.stalls (now (edges .entry)) (now (registers .entry)) (now (fetched .entry)) ne) unit (now (vertices .entry)) ⌝ }
-    ensures { λ r. ⌜ now (stalled .exit) ≡ byUnit (now (edges .entry)) (now (registers .entry)) (now (fetched .entry)) ne stallsEdge unit (now (stalled .entry)) ⌝ }
+    ensures { λ r. ⌜ now (vertices .exit) ≡ byUnit (now (edges .entry)) (now (registers .entry)) (fetched (now (edges .entry)) (now (registers .entry)) (now (weights .entry)) ne) ne (Units.stalls (now (edges .entry)) (now (registers .entry)) (fetched (now (edges .entry)) (now (registers .entry)) (now (weights .entry)) ne) ne) unit (now (vertices .entry)) ⌝ }
+    ensures { λ r. ⌜ now (stalled .exit) ≡ byUnit (now (edges .entry)) (now (registers .entry)) (fetched (now (edges .entry)) (now (registers .entry)) (now (weights .entry)) ne) ne stallsEdge unit (now (stalled .entry)) ⌝ }
 {
-    if !holds(unit, edges, fetched, registers, places, degrees, ne) {
+    if !holds(unit, edges, weights, registers, places, degrees, ne) {
         return;
     }
     stall(
         unit,
         edges,
-        fetched,
+        weights,
         registers,
         places,
         degrees,
@@ -118,18 +120,12 @@ fn offload_unit<'a>(
     stalled[edge_of(unit).0 as usize] = true;
 }
 
-fn at_most_2048(n: usize) -> usize
-    ensures { λ r. ⌜ r ≡ min n 2_048 ⌝ }
-{
-    if n < 2_048 { n } else { 2_048 }
-}
-
 // The first nu units, one by one. The places and degrees are those of the ne edges in use.
 pub fn offload<'a>(
     units: &'a [u32; 2048],
     nu: usize,
     edges: &'a [u32; 1024],
-    fetched: &'a [u32; 1024],
+    weights: &'a [u32; 1024],
     registers: &'a [u64; 256],
     places: &'a [u32; 4096],
     degrees: &'a [u8; 256],
@@ -138,16 +134,16 @@ pub fn offload<'a>(
     stalled: &mut [bool; 1024],
 )
     requires { ⌜ Wired (now edges) ne (now places) (now degrees) ⌝ }
-    ensures { λ r. ⌜ now (vertices .exit) ≡ byUnits (now (edges .entry)) (now (registers .entry)) (now (fetched .entry)) ne (Units.stalls (now (edges .entry)) (now (registers .entry)) (now (fetched .entry)) ne) (now (units .entry)) (now (vertices .entry)) (min nu 2_048) ⌝ }
-    ensures { λ r. ⌜ now (stalled .exit) ≡ byUnits (now (edges .entry)) (now (registers .entry)) (now (fetched .entry)) ne stallsEdge (now (units .entry)) (now (stalled .entry)) (min nu 2_048) ⌝ }
+    ensures { λ r. ⌜ now (vertices .exit) ≡ byUnits (now (edges .entry)) (now (registers .entry)) (fetched (now (edges .entry)) (now (registers .entry)) (now (weights .entry)) ne) ne (Units.stalls (now (edges .entry)) (now (registers .entry)) (fetched (now (edges .entry)) (now (registers .entry)) (now (weights .entry)) ne) ne) (now (units .entry)) (now (vertices .entry)) (min nu 2_048) ⌝ }
+    ensures { λ r. ⌜ now (stalled .exit) ≡ byUnits (now (edges .entry)) (now (registers .entry)) (fetched (now (edges .entry)) (now (registers .entry)) (now (weights .entry)) ne) ne stallsEdge (now (units .entry)) (now (stalled .entry)) (min nu 2_048) ⌝ }
 {
-    let n = at_most_2048(nu);
+    let n = at_most(nu, 2_048);
     let mut k = 0;
     while k < n {
         offload_unit(
             unit_of(units[k]),
             edges,
-            fetched,
+            weights,
             registers,
             places,
             degrees,

@@ -3,6 +3,7 @@ use crate::edge::is_tight;
 use rules::index::EdgeIndex;
 use rules::index::VertexIndex;
 ghost use mathlib.Core.Path.{_≡_};
+ghost use Rattle.rules.specs.Fetch.{fetched};
 ghost use Rattle.places.specs.Places.{edgeIn, farIn};
 ghost use Rattle.comb_offloading.specs.Around.{tightOther};
 
@@ -23,14 +24,15 @@ pub(crate) fn is_tight_other<'a>(
     place: u32,
     edge: EdgeIndex,
     edges: &'a [u32; 1024],
-    fetched: &'a [u32; 1024],
+    weights: &'a [u32; 1024],
     registers: &'a [u64; 256],
+    ne: usize,
 ) -> bool
-    ensures { λ r. ⌜ r ≡ tightOther (now (edges .entry)) (now (registers .entry)) (now (fetched .entry)) (edge .0) (edgeIn place) ⌝ }
+    ensures { λ r. ⌜ r ≡ tightOther (now (edges .entry)) (now (registers .entry)) (fetched (now (edges .entry)) (now (registers .entry)) (now (weights .entry)) ne) (edge .0) (edgeIn place) ⌝ }
 {
     let other = edge_at(place);
     if other.0 == edge.0 {
         return false;
     }
-    is_tight(other, edges, fetched, registers)
+    is_tight(other, edges, weights, registers, ne)
 }

@@ -6,6 +6,7 @@ use rules::index::EdgeIndex;
 use rules::index::VertexIndex;
 ghost use mathlib.Core.Path.{_≡_};
 ghost use Prim.Native.Nat.{_<_};
+ghost use Rattle.rules.specs.Fetch.{fetched};
 ghost use Rattle.rules.specs.Units as Units;
 ghost use Rattle.places.specs.Places.{edgeIn, farIn};
 ghost use Rattle.places.specs.Wired.{Wired};
@@ -15,13 +16,14 @@ fn stall_far<'a>(
     place: u32,
     edge: EdgeIndex,
     edges: &'a [u32; 1024],
-    fetched: &'a [u32; 1024],
+    weights: &'a [u32; 1024],
     registers: &'a [u64; 256],
+    ne: usize,
     vertices: &mut [bool; 256],
 )
-    ensures { λ r. ⌜ now (vertices .exit) ≡ stallsBy (now (edges .entry)) (now (registers .entry)) (now (fetched .entry)) (edge .0) (edgeIn place) (farIn place) (now (vertices .entry)) ⌝ }
+    ensures { λ r. ⌜ now (vertices .exit) ≡ stallsBy (now (edges .entry)) (now (registers .entry)) (fetched (now (edges .entry)) (now (registers .entry)) (now (weights .entry)) ne) (edge .0) (edgeIn place) (farIn place) (now (vertices .entry)) ⌝ }
 {
-    if !is_tight_other(place, edge, edges, fetched, registers) {
+    if !is_tight_other(place, edge, edges, weights, registers, ne) {
         return;
     }
     raise(far_at(place), vertices);
@@ -31,7 +33,7 @@ pub(crate) fn stall_around<'a>(
     edge: EdgeIndex,
     regular: VertexIndex,
     edges: &'a [u32; 1024],
-    fetched: &'a [u32; 1024],
+    weights: &'a [u32; 1024],
     registers: &'a [u64; 256],
     places: &'a [u32; 4096],
     degrees: &'a [u8; 256],
@@ -39,7 +41,7 @@ pub(crate) fn stall_around<'a>(
     vertices: &mut [bool; 256],
 )
     requires { ⌜ (regular .0 < 256) × Wired (now edges) ne (now places) (now degrees) ⌝ }
-    ensures { λ r. ⌜ now (vertices .exit) ≡ Units.stallsAround (now (edges .entry)) (now (registers .entry)) (now (fetched .entry)) ne (edge .0) (regular .0) (now (vertices .entry)) ⌝ }
+    ensures { λ r. ⌜ now (vertices .exit) ≡ Units.stallsAround (now (edges .entry)) (now (registers .entry)) (fetched (now (edges .entry)) (now (registers .entry)) (now (weights .entry)) ne) ne (edge .0) (regular .0) (now (vertices .entry)) ⌝ }
 {
     raise(regular, vertices);
     let v = regular.0 as usize;
@@ -50,8 +52,9 @@ pub(crate) fn stall_around<'a>(
             places[v * 16 + k as usize],
             edge,
             edges,
-            fetched,
+            weights,
             registers,
+            ne,
             vertices,
         );
         k += 1;

@@ -6,7 +6,7 @@ use rules::registers::view;
 ghost use mathlib.Core.Path.{_≡_};
 ghost use Prim.Native.Nat.{_<_};
 ghost use lib.Dec.{eqb};
-ghost use Rattle.rules.specs.Fetch.{tightCount};
+ghost use Rattle.rules.specs.Fetch.{fetched, tightCount};
 ghost use Rattle.rules.specs.Registers as Registers;
 ghost use Rattle.rules.specs.Units as Units;
 ghost use Rattle.places.specs.Wired.{Wired};
@@ -50,32 +50,34 @@ pub(crate) fn is_eager(vertex: VertexIndex, registers: &[u64; 256]) -> bool
 pub(crate) fn is_unique_tight<'a>(
     vertex: VertexIndex,
     edges: &'a [u32; 1024],
-    fetched: &'a [u32; 1024],
+    weights: &'a [u32; 1024],
     registers: &'a [u64; 256],
     places: &'a [u32; 4096],
     degrees: &'a [u8; 256],
     ne: usize,
 ) -> bool
     requires { ⌜ (vertex .0 < 256) × Wired (now edges) ne (now places) (now degrees) ⌝ }
-    ensures { λ r. ⌜ r ≡ eqb (tightCount (now (edges .entry)) (now (registers .entry)) (now (fetched .entry)) ne (vertex .0)) 1 ⌝ }
+    ensures { λ r. ⌜ r ≡ eqb (tightCount (now (edges .entry)) (now (registers .entry)) (fetched (now (edges .entry)) (now (registers .entry)) (now (weights .entry)) ne) ne (vertex .0)) 1 ⌝ }
 {
-    tight_count(vertex.0 as u8, places, degrees, edges, fetched, registers) == 1
+    let v = vertex.0 as u8;
+    tight_count(v, places, degrees, edges, weights, registers, ne) == 1
 }
 
 // "tight count 0"
 pub(crate) fn is_isolated<'a>(
     vertex: VertexIndex,
     edges: &'a [u32; 1024],
-    fetched: &'a [u32; 1024],
+    weights: &'a [u32; 1024],
     registers: &'a [u64; 256],
     places: &'a [u32; 4096],
     degrees: &'a [u8; 256],
     ne: usize,
 ) -> bool
     requires { ⌜ (vertex .0 < 256) × Wired (now edges) ne (now places) (now degrees) ⌝ }
-    ensures { λ r. ⌜ r ≡ eqb (tightCount (now (edges .entry)) (now (registers .entry)) (now (fetched .entry)) ne (vertex .0)) 0 ⌝ }
+    ensures { λ r. ⌜ r ≡ eqb (tightCount (now (edges .entry)) (now (registers .entry)) (fetched (now (edges .entry)) (now (registers .entry)) (now (weights .entry)) ne) ne (vertex .0)) 0 ⌝ }
 {
-    tight_count(vertex.0 as u8, places, degrees, edges, fetched, registers) == 0
+    let v = vertex.0 as u8;
+    tight_count(v, places, degrees, edges, weights, registers, ne) == 0
 }
 
 pub(crate) fn raise(vertex: VertexIndex, vertices: &mut [bool; 256])

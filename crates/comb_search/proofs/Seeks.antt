@@ -33,9 +33,6 @@ use Rattle.comb_search.specs.declared.turn.Next.the-variants.{Stop, Nega
 use Rattle.comb_search.specs.declared.turn.Turn.{Turn}
 use Rattle.comb_search.specs.declared.turn.Turn.the-variants.{Found, Stopped, Grew}
 
-never : {A : Type 0} → _≡_ {A = ℕ} 0 1 → A
-never e = let z : ⊥ = omega arith in absurd z
-
 -- ---- what follows a finding f at c, by what it leads to
 
 module _ (g : Graph) (rest : Walk → Ended) (c : Walk) where

@@ -61,11 +61,6 @@ module _ (g : Graph) where
 
   -- ---- one turn
 
-  -- what follows a finding answered a that left t; then a Grow by k that is answered b and left u
-  abbrev pub afterwards : (State → Searched) → State → ℕ → ℕ → ℕ → Answer → State → Searched
-  afterwards go t growth steps k (Refused r) u = told (ends (walk t growth steps []) (Refused r))
-  afterwards go t growth steps k (Found f) u = go u
-
   pub seek-turn : (n : ℕ) (s : State) (growth steps : ℕ)
       → seek (suc n) s growth steps ≡ told (next (λ w. walked g n w) (afterFinding g (walk (step g s FindObstacle .state) growth steps []) (step g s FindObstacle .answer)))
   unfolding seek walked turn

@@ -1,2 +1,3 @@
 pub mod Settling
 pub mod Reporting
+pub mod Marking

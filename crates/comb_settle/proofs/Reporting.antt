@@ -1,22 +1,38 @@
 -- The loop's turns, over variables: W gives the words that are painted over start, and what the vertices find is told of the whole table.
 use Prim.Native.Nat.{ℕ, zero, suc, _+_, _≤_, _<_}
 use mathlib.Core.Path.{_≡_, refl, sym, _∙_}
+use mathlib.Core.Bool.{Bool, true, false}
 use mathlib.Core.List.{List, [], _∷_}
 use native.Mathlib.Numerals.{add-one}
 use native.Mathlib.Omega.{arith}
 use lib.ListN.{getD, set}
+use Rattle.laws.specs.Choice.{pick}
 use Rattle.laws.specs.Fold.{upTo}
 use Rattle.laws.specs.Table.{paint, paintFrom, paint-none, paint-step}
-use Rattle.rules.specs.Registers.{at, view}
+use Rattle.rules.specs.Registers.{at, view, shrinking}
 use Rattle.rules.specs.Respond.{vertexReport}
-use Rattle.rules.specs.Reduce.{reduce, vertexFinding}
+use Rattle.rules.specs.Reduce.{least, reduce, vertexFinding}
 use Rattle.rules.specs.declared.finding.Finding.{Finding}
 use Rattle.rules.specs.declared.finding.Finding.the-variants.{GrowLength}
-use Rattle.rules.specs.declared.finding.Length.the-variants.{NoLimit}
+use Rattle.rules.specs.declared.finding.Length.{Length}
+use Rattle.rules.specs.declared.finding.Length.the-variants.{NoLimit, Ahead}
+use Rattle.rules.specs.declared.registers.VertexRegisters.{VertexRegisters}
+use Rattle.interface.proofs.Join.{reduce-unit-right}
 
 pub none-yet : (ys : List ℕ) → GrowLength NoLimit ≡ vertexFinding ys 0
 unfolding vertexFinding upTo
 none-yet ys = refl
+
+-- a vertex that is not at Shrink changes no finding
+pub none-reported : (f : Finding) (x : VertexRegisters) (b : Bool) → b ≡ shrinking (x .speed) → b ≡ false → reduce f (vertexReport x) ≡ f
+unfolding vertexReport pick
+none-reported f x b p q = rw (← p, q) (reduce-unit-right f)
+
+-- one at Shrink bounds it
+pub one-reported : (l : Length) (x : VertexRegisters) (m : Length) → m ≡ least l (Ahead (x .grown)) → (b : Bool) → b ≡ shrinking (x .speed) → b ≡ true
+    → GrowLength m ≡ reduce (GrowLength l) (vertexReport x)
+unfolding vertexReport pick
+one-reported l x m e b p q = rw (← p, q, e)
 
 module _ (W : ℕ → ℕ) where
   -- an entry that is painted stays

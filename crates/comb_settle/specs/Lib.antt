@@ -1,3 +1,5 @@
 pub mod Settled
 pub mod Wiring
-pub mod Reports
+pub mod Marked
+pub mod Far
+pub mod Unled

@@ -1,26 +1,24 @@
 -- Stages 5 and 6 at one vertex, by its places: ps holds the places, ds the degrees.
-use Prim.Native.Nat.{ℕ}
-use mathlib.Core.Bool.{Bool, true, false}
+use Prim.Native.Nat.{ℕ, _/_, _%_}
+use mathlib.Core.Bool.{Bool, false, _&&_}
 use mathlib.Core.List.{List}
-use lib.Dec.{eqb}
+use lib.Dec.{ltb}
 use lib.ListN.{getD}
-use Rattle.laws.specs.Choice.{_and_, pick}
-use Rattle.rules.specs.Registers.{at, keep, shrinking}
+use Rattle.rules.specs.Registers.{at, keep}
 use Rattle.rules.specs.Execute.{waits}
 use Rattle.rules.specs.Update.{update}
 use Rattle.rules.specs.Shadow.{shadow}
 use Rattle.rules.specs.declared.registers.VertexRegisters.{VertexRegisters}
 use Rattle.rules.specs.declared.registers.PropagatingPeer.{PropagatingPeer}
-use Rattle.rules.specs.declared.registers.PropagatingPeer.the-variants.{Nobody}
 use Rattle.comb_vertex.specs.Led.{peerAt}
+
+-- a word that registers keep: 62 bits, and a speed's code
+unfoldable pub kept : ℕ → Bool
+kept w = ltb w 4_611_686_018_427_387_904 && ltb (w / 288_230_376_151_711_744 % 4) 3
 
 module _ (es fs xs ps ds : List ℕ) where
   unfoldable pub updatedWord : ℕ → ℕ
   updatedWord v = keep (update (peerAt es fs xs ps ds v) (at xs v))
-
-  -- the peer of a vertex at Shrink and grown 0, nobody for any other
-  unfoldable pub yieldingPeer : ℕ → VertexRegisters → PropagatingPeer
-  yieldingPeer v x = pick (shrinking (x .speed) and eqb (x .grown) 0) (peerAt es fs xs ps ds v) Nobody
 
 -- y holds the registers of v after stage 5
 unfoldable pub seenBy : List ℕ → List Bool → ℕ → PropagatingPeer → VertexRegisters → ℕ

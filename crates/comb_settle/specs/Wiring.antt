@@ -6,39 +6,23 @@ use mathlib.Core.List.{List, [], _∷_}
 use mathlib.Core.Option.{Option, none, some}
 use native.Mathlib.Nat.{add-zero}
 use native.Mathlib.Omega.{arith}
-use lib.Dec.{eqb}
 use lib.ListN.{length, getD}
-use Rattle.laws.specs.Choice.{_and_, pick, by-test}
+use Rattle.laws.specs.Choice.{by-test}
 use Rattle.laws.specs.First.{first}
 use Rattle.laws.specs.Table.{paint, paintFrom, paint-same, getD-painted}
-use Rattle.rules.specs.Registers.{at, keep, shrinking}
+use Rattle.rules.specs.Registers.{at, keep}
 use Rattle.rules.specs.Round.{InRange, at-in-range, round}
 use Rattle.rules.specs.Execute.{waits}
 use Rattle.rules.specs.Peer.{leadBy, servedBy, peer}
 use Rattle.rules.specs.Update.{isLoose, follow, update, updated}
-use Rattle.rules.specs.Shadow.{yield, yielded, shadow, shadows}
+use Rattle.rules.specs.Shadow.{shadow, shadows}
 use Rattle.rules.specs.declared.registers.VertexRegisters.{VertexRegisters}
 use Rattle.rules.specs.declared.registers.PropagatingPeer.{PropagatingPeer}
 use Rattle.rules.specs.declared.registers.PropagatingPeer.the-variants.{Nobody, Leads}
 use Rattle.places.specs.Wired.{Wired}
 use Rattle.comb_vertex.specs.Execution.{paint-over}
 use Rattle.comb_vertex.specs.Led.{peerAt, peer-is}
-use Rattle.comb_settle.specs.Settled.{updatedWord, yieldingPeer, seenBy, shadowWord}
-
--- where the test fails the peer plays no part
-yield-only : (b : Bool) (p : PropagatingPeer) (x : VertexRegisters) → pick b (yield (pick b p Nobody) x) x ≡ pick b (yield p x) x
-unfolding pick
-yield-only true p x = refl
-yield-only false p x = refl
-
-yielded-only : (p : PropagatingPeer) (x : VertexRegisters) → yielded (pick (shrinking (x .speed) and eqb (x .grown) 0) p Nobody) x ≡ yielded p x
-unfolding yielded
-yielded-only p x = yield-only _ p x
-
-pub shadow-only : (p : PropagatingPeer) (waiting stalled : Bool) (x : VertexRegisters)
-    → shadow (pick (shrinking (x .speed) and eqb (x .grown) 0) p Nobody) waiting stalled x ≡ shadow p waiting stalled x
-unfolding shadow
-shadow-only p waiting stalled x = rw (yielded-only p x)
+use Rattle.comb_settle.specs.Settled.{updatedWord, seenBy, shadowWord}
 
 -- ---- stage 5 leaves registers in range, so that the word of a vertex shows them
 
@@ -78,7 +62,7 @@ module _ {A : Type 0} (f g : ℕ → A) where
   paint-within n xs h = within-from 0 n xs (λ k a b. let e : 0 + k ≡ k = omega arith in rw e (h k a b))
 
 module _ {es ps ds : List ℕ} {ne : ℕ} (w : Wired es ne ps ds) (fs xs : List ℕ) where
-  led : (v : ℕ) → v < 256 → peerAt es fs xs ps ds v ≡ peer es fs xs ne v
+  pub led : (v : ℕ) → v < 256 → peerAt es fs xs ps ds v ≡ peer es fs xs ne v
   led v u = peer-is es ps ds ne (w .limit) v (w .used) (w .listed) (w .counted) u (w .small) fs xs
 
   pub updated-by : (n : ℕ) → n ≤ 256 → paint n (updatedWord es fs xs ps ds) xs ≡ updated es fs xs ne n

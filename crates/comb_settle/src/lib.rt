@@ -1,32 +1,32 @@
 // Stages 5 and 6 over all vertices, and what these report in stage 7.
+mod mark;
+
+use crate::mark::mark_led;
 use comb_vertex::execute::waits;
 use comb_vertex::peer::propagating_peer;
-use interface::reduce;
+use interface::least;
 use rules::finding::Finding;
 use rules::finding::Length;
+use rules::graph::at_most;
 use rules::registers::PropagatingPeer;
 use rules::registers::VertexRegisters;
 use rules::registers::view;
+ghost use mathlib.Core.Bool.{false, not, _&&_};
 ghost use mathlib.Core.Path.{_≡_};
 ghost use Prim.Native.Nat.{min};
+ghost use lib.Dec.{eqb};
+ghost use Rattle.laws.specs.Choice.{_and_};
 ghost use Rattle.laws.specs.Table.{paint};
+ghost use Rattle.rules.specs.Fetch.{fetched};
 ghost use Rattle.rules.specs.Reduce as Reduce;
 ghost use Rattle.rules.specs.Registers as Registers;
 ghost use Rattle.rules.specs.Respond.{vertexReport};
-ghost use Rattle.rules.specs.Update as Update;
-ghost use Rattle.comb_settle.specs.Settled.{updatedWord, yieldingPeer, seenBy, shadowWord};
-
-fn at(registers: &[u64; 256], v: u8) -> VertexRegisters
-    ensures { λ r. ⌜ r ≡ Registers.at (now (registers .entry)) v ⌝ }
-{
-    view(registers[v as usize])
-}
-
-fn at_most_256(n: usize) -> usize
-    ensures { λ r. ⌜ r ≡ min n 256 ⌝ }
-{
-    if n < 256 { n } else { 256 }
-}
+ghost use Rattle.rules.specs.declared.finding.Finding.the-variants.{GrowLength};
+ghost use Rattle.places.specs.Ends.{Ends};
+ghost use Rattle.places.specs.Wired.{Wired};
+ghost use Rattle.comb_vertex.specs.Led.{peerAt};
+ghost use Rattle.comb_settle.specs.Marked.{Marks};
+ghost use Rattle.comb_settle.specs.Settled.{kept, updatedWord, seenBy, shadowWord};
 
 // What stages 5 and 6 make of one vertex.
 struct Settled {
@@ -34,41 +34,28 @@ struct Settled {
     shadow: u64,
 }
 
-// "a vertex neither defect nor virtual with grown 0"
-fn is_loose(registers: VertexRegisters) -> bool
-    ensures { λ r. ⌜ r ≡ Update.isLoose registers ⌝ }
-{
-    if registers.is_defect {
-        return false;
-    }
-    if registers.is_virtual {
-        return false;
-    }
-    registers.grown == 0
-}
-
-// The peer that the shadow looks at: "if Shrink at grown 0". Any other vertex needs no walk.
-fn yielding_peer<'p>(
+// Only a marked vertex needs the walk.
+fn peer_of<'p>(
     places: &'p [u32; 4096],
     degrees: &'p [u8; 256],
     edges: &[u32; 1024],
-    fetched: &[u32; 1024],
+    weights: &[u32; 1024],
+    before: &[u64; 256],
+    ne: usize,
     executed: &[u64; 256],
+    marks: &[bool; 256],
     v: u8,
-    registers: VertexRegisters,
 ) -> PropagatingPeer
-    ensures { λ r. ⌜ r ≡ yieldingPeer (now (edges .entry)) (now (fetched .entry)) (now (executed .entry)) (now (places .entry)) (now (degrees .entry)) v registers ⌝ }
+    requires { ⌜ Marks (now edges) (fetched (now edges) (now before) (now weights) ne) (now executed) (now places) (now degrees) (now marks) ⌝ }
+    ensures { λ r. ⌜ r ≡ peerAt (now (edges .entry)) (fetched (now (edges .entry)) (now (before .entry)) (now (weights .entry)) ne) (now (executed .entry)) (now (places .entry)) (now (degrees .entry)) v ⌝ }
 {
-    let speed = registers.speed;
-    if speed.is_shrinking() {
-        if registers.grown == 0 {
-            return propagating_peer(v, places, degrees, edges, fetched, executed);
-        }
+    if marks[v as usize] {
+        return propagating_peer(v, places, degrees, edges, weights, before, ne, executed);
     }
     PropagatingPeer::Nobody
 }
 
-// registers are those after stage 5.
+// registers are those after stage 5. Those that wait are taken apart, since so little is left of their shadow.
 fn seen(
     vertices: &[u32; 256],
     stalled: &[bool; 256],
@@ -78,53 +65,116 @@ fn seen(
 ) -> u64
     ensures { λ r. ⌜ r ≡ seenBy (now (vertices .entry)) (now (stalled .entry)) v peer registers ⌝ }
 {
-    registers
-        .shadow(peer, waits(vertices, v, registers), stalled[v as usize])
-        .keep()
+    if waits(vertices, v, registers) {
+        return registers.shadow(peer, true, stalled[v as usize]).keep();
+    }
+    registers.shadow(peer, false, stalled[v as usize]).keep()
 }
 
-// Only a loose vertex is updated, so the two kinds are kept apart: little is left to do for either.
+// "A fresh vertex is Stay, 0, no defect": most are, so these words are told by one test.
+fn is_fresh(word: u64, is_virtual: bool) -> bool
+    ensures { λ r. ⌜ r ≡ eqb word (Registers.keep (Registers.fresh «is_virtual»)) ⌝ }
+{
+    word == VertexRegisters::fresh(is_virtual).keep()
+}
+
+// Whether a vertex is fresh, not virtual, and led by nobody: then it stays so, and shows so.
+fn is_free(word: u64, is_marked: bool) -> bool
+    ensures { λ r. ⌜ r ≡ (eqb word (Registers.keep (Registers.fresh false)) and not «is_marked») ⌝ }
+{
+    if is_fresh(word, false) {
+        return !is_marked;
+    }
+    false
+}
+
+// Whether a word is one that registers keep.
+fn is_kept(word: u64) -> bool
+    ensures { λ r. ⌜ r ≡ kept word ⌝ }
+{
+    (word < 4_611_686_018_427_387_904) & (word / 288_230_376_151_711_744 % 4 < 3)
+}
+
+// Whether a vertex is grown, neither virtual nor stalled: then it stays and shows as it is. One test, since which are is hard to predict.
+fn is_firm(word: u64, is_stalled: bool) -> bool
+    ensures { λ r. ⌜ r ≡ (((kept word && not (eqb (Registers.view word .grown) 0)) && not (Registers.view word .«is_virtual»)) && not «is_stalled») ⌝ }
+{
+    let registers = view(word);
+    is_kept(word) & (registers.grown != 0) & !registers.is_virtual & !is_stalled
+}
+
 fn settle_at<'p>(
     vertices: &[u32; 256],
     places: &'p [u32; 4096],
     degrees: &'p [u8; 256],
     edges: &[u32; 1024],
-    fetched: &[u32; 1024],
+    weights: &[u32; 1024],
+    before: &[u64; 256],
+    ne: usize,
     executed: &[u64; 256],
     stalled: &[bool; 256],
+    marks: &[bool; 256],
     v: u8,
 ) -> Settled
-    ensures { λ r. ⌜ r .updated ≡ updatedWord (now (edges .entry)) (now (fetched .entry)) (now (executed .entry)) (now (places .entry)) (now (degrees .entry)) v ⌝ }
-    ensures { λ r. ⌜ r .shadow ≡ shadowWord (now (vertices .entry)) (now (edges .entry)) (now (fetched .entry)) (now (executed .entry)) (now (places .entry)) (now (degrees .entry)) (now (stalled .entry)) v ⌝ }
+    requires { ⌜ Marks (now edges) (fetched (now edges) (now before) (now weights) ne) (now executed) (now places) (now degrees) (now marks) ⌝ }
+    ensures { λ r. ⌜ r .updated ≡ updatedWord (now (edges .entry)) (fetched (now (edges .entry)) (now (before .entry)) (now (weights .entry)) ne) (now (executed .entry)) (now (places .entry)) (now (degrees .entry)) v ⌝ }
+    ensures { λ r. ⌜ r .shadow ≡ shadowWord (now (vertices .entry)) (now (edges .entry)) (fetched (now (edges .entry)) (now (before .entry)) (now (weights .entry)) ne) (now (executed .entry)) (now (places .entry)) (now (degrees .entry)) (now (stalled .entry)) v ⌝ }
 {
-    let registers = at(executed, v);
-    if is_loose(registers) {
-        let peer = propagating_peer(v, places, degrees, edges, fetched, executed);
-        let next = registers.update(peer);
-        let shadow = seen(vertices, stalled, v, peer, next);
+    let word = executed[v as usize];
+    if is_free(word, marks[v as usize]) {
         return Settled {
-            updated: next.keep(),
-            shadow,
+            updated: word,
+            shadow: word,
         };
     }
-    let peer = yielding_peer(places, degrees, edges, fetched, executed, v, registers);
-    let shadow = seen(vertices, stalled, v, peer, registers);
+    if is_fresh(word, true) {
+        return Settled {
+            updated: word,
+            shadow: seen(
+                vertices,
+                stalled,
+                v,
+                PropagatingPeer::Nobody,
+                VertexRegisters::fresh(true),
+            ),
+        };
+    }
+    if is_firm(word, stalled[v as usize]) {
+        return Settled {
+            updated: word,
+            shadow: word,
+        };
+    }
+    let registers = view(word);
+    let peer = peer_of(
+        places,
+        degrees,
+        edges,
+        weights,
+        before,
+        ne,
+        executed,
+        marks,
+        v,
+    );
+    let next = registers.update(peer);
+    let shadow = seen(vertices, stalled, v, peer, next);
     Settled {
-        updated: registers.keep(),
+        updated: next.keep(),
         shadow,
     }
 }
 
-// "A vertex at Shrink after stage 5 reports its new grown amount"; no other bounds the finding.
-fn reported(finding: Finding, word: u64) -> Finding
-    ensures { λ r. ⌜ r ≡ Reduce.reduce finding (vertexReport (Registers.view word)) ⌝ }
+// "A vertex at Shrink after stage 5 reports its new grown amount"; no other bounds the length.
+fn shortest(length: Length, word: u64) -> Length
+    ensures { λ r. ⌜ GrowLength r ≡ Reduce.reduce (GrowLength length) (vertexReport (Registers.view word)) ⌝ }
 {
     let registers = view(word);
     let speed = registers.speed;
     if speed.is_shrinking() {
-        return reduce(finding, registers.report());
+        return least(length, Length::Ahead(registers.grown));
     }
-    finding
+    length
 }
 
 // Stages 5 and 6 of the first `nv` vertices, into lent tables, and what these vertices find.
@@ -133,19 +183,24 @@ pub fn settle<'p>(
     places: &'p [u32; 4096],
     degrees: &'p [u8; 256],
     edges: &[u32; 1024],
-    fetched: &[u32; 1024],
+    weights: &[u32; 1024],
+    before: &[u64; 256],
+    ne: usize,
     executed: &[u64; 256],
     stalled: &[bool; 256],
     nv: usize,
+    reach: usize,
     updated: &mut [u64; 256],
     shadows: &mut [u64; 256],
 ) -> Finding
-    ensures { λ r. ⌜ now (updated .exit) ≡ paint (min nv 256) (updatedWord (now (edges .entry)) (now (fetched .entry)) (now (executed .entry)) (now (places .entry)) (now (degrees .entry))) (now (updated .entry)) ⌝ }
-    ensures { λ r. ⌜ now (shadows .exit) ≡ paint (min nv 256) (shadowWord (now (vertices .entry)) (now (edges .entry)) (now (fetched .entry)) (now (executed .entry)) (now (places .entry)) (now (degrees .entry)) (now (stalled .entry))) (now (shadows .entry)) ⌝ }
+    requires { ⌜ Wired (now edges) ne (now places) (now degrees) × Ends (now edges) ne reach ⌝ }
+    ensures { λ r. ⌜ now (updated .exit) ≡ paint (min nv 256) (updatedWord (now (edges .entry)) (fetched (now (edges .entry)) (now (before .entry)) (now (weights .entry)) ne) (now (executed .entry)) (now (places .entry)) (now (degrees .entry))) (now (updated .entry)) ⌝ }
+    ensures { λ r. ⌜ now (shadows .exit) ≡ paint (min nv 256) (shadowWord (now (vertices .entry)) (now (edges .entry)) (fetched (now (edges .entry)) (now (before .entry)) (now (weights .entry)) ne) (now (executed .entry)) (now (places .entry)) (now (degrees .entry)) (now (stalled .entry))) (now (shadows .entry)) ⌝ }
     ensures { λ r. ⌜ r ≡ Reduce.vertexFinding (now (updated .exit)) (min nv 256) ⌝ }
 {
-    let n = at_most_256(nv);
-    let mut finding = Finding::GrowLength(Length::NoLimit);
+    let n = at_most(nv, 256);
+    let marks = mark_led(places, degrees, edges, weights, before, ne, executed, reach);
+    let mut length = Length::NoLimit;
     let mut v: usize = 0;
     while v < n {
         let settled = settle_at(
@@ -153,15 +208,18 @@ pub fn settle<'p>(
             places,
             degrees,
             edges,
-            fetched,
+            weights,
+            before,
+            ne,
             executed,
             stalled,
+            &marks,
             v as u8,
         );
         updated[v] = settled.updated;
         shadows[v] = settled.shadow;
-        finding = reported(finding, updated[v]);
+        length = shortest(length, updated[v]);
         v += 1;
     }
-    finding
+    Finding::GrowLength(length)
 }

@@ -1,5 +1,6 @@
 // Stage 3 over all vertices.
 use crate::at;
+use rules::graph::at_most;
 use rules::index::LayerId;
 use rules::index::NodeIndex;
 use rules::index::VertexIndex;
@@ -121,12 +122,6 @@ fn refusal_of(executed: Executed) -> Execution
     }
 }
 
-fn at_most_256(n: usize) -> usize
-    ensures { λ r. ⌜ r ≡ min n 256 ⌝ }
-{
-    if n < 256 { n } else { 256 }
-}
-
 // The registers of the first `nv` vertices after the instruction, into a lent table; "lowest vertex decides", and it and those after it are not written.
 pub fn execute(
     vertices: &[u32; 256],
@@ -139,7 +134,7 @@ pub fn execute(
     ensures { λ r. ⌜ r ≡ execution (Execute.executeRefusal (now (vertices .entry)) (now (registers .entry)) (now (stalled .entry)) instruction (min nv 256)) ⌝ }
     ensures { λ r. ⌜ now (out .exit) ≡ executedInto (now (vertices .entry)) (now (registers .entry)) (now (stalled .entry)) instruction (min nv 256) (now (out .entry)) ⌝ }
 {
-    let n = at_most_256(nv);
+    let n = at_most(nv, 256);
     let mut v: usize = 0;
     while v < n {
         if !is_concerned(registers, instruction, v as u8) {

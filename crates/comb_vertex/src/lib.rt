@@ -11,7 +11,7 @@ ghost use Rattle.rules.specs.Registers as Registers;
 ghost use Rattle.comb_vertex.specs.Walked.{placeOf, degreeOf};
 
 // The registers of one vertex in a table.
-fn at(registers: &[u64; 256], v: u8) -> VertexRegisters
+pub fn at(registers: &[u64; 256], v: u8) -> VertexRegisters
     ensures { λ r. ⌜ r ≡ Registers.at (now (registers .entry)) v ⌝ }
 {
     view(registers[v as usize])

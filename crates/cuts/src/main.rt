@@ -6,6 +6,7 @@ use listing::bad_line;
 use listing::first_line;
 use rules::graph::Graph;
 use rules::graph::Opening;
+use rules::graph::at_most;
 use rules::refusal::Refusal;
 use rules::state::State;
 use session::end_of_input;
@@ -13,14 +14,8 @@ use session::run_chunk;
 ghost use Prim.Native.Nat.{_≤_};
 ghost use lib.ListN.{length};
 
-fn lesser(n: usize, most: usize) -> usize
-    ensures { λ r. ⌜ (r ≤ n) × (r ≤ most) ⌝ }
-{
-    if n < most { n } else { most }
-}
-
 fn put(text: &[u8], n: usize) {
-    let length = lesser(n, text.len());
+    let length = at_most(n, text.len());
     io::write_all(libc::STDOUT_FILENO, &text[0..length]);
 }
 
@@ -47,12 +42,12 @@ fn show_end(out: &mut [u8], left: usize) {
 // Each chunk is longer than the one before it, up to 17 bytes, so the records get on.
 fn show_records(graph: Graph, first: State, session: &[u8], start: usize, out: &mut [u8]) {
     let mut state = first;
-    let mut from = lesser(start, session.len());
+    let mut from = at_most(start, session.len());
     let mut piece: usize = 1;
     let mut turns = u64::MAX;
     while 0 < turns {
         turns -= 1;
-        let to = from + lesser(piece, session.len() - from);
+        let to = from + at_most(piece, session.len() - from);
         let done = run_chunk(graph, state, &session[from..to], out);
         state = done.state;
         from += done.used;
@@ -93,7 +88,7 @@ fn show_all(session: &mut [u8], out: &mut [u8]) {
         if turns < u64::MAX {
             io::write_all(libc::STDOUT_FILENO, b"=\n");
         }
-        let length = lesser(n, session.len());
+        let length = at_most(n, session.len());
         show(&session[0..length], out);
         turns -= 1;
     }

@@ -4,31 +4,6 @@ ghost use Prim.Native.Nat.{_<_};
 use rules::graph::Graph;
 use rules::graph::Opened;
 use rules::graph::Opening;
-use rules::refusal::Refusal;
-
-fn number(why: Refusal) -> u64 {
-    match why {
-        Refusal::NotAnImage => 1,
-        Refusal::VertexCount => 2,
-        Refusal::EdgeCount => 3,
-        Refusal::UnitCount => 4,
-        Refusal::CutShort => 5,
-        Refusal::VertexRecord => 6,
-        Refusal::EdgeEnds => 7,
-        Refusal::Weight => 8,
-        Refusal::Condition => 9,
-        Refusal::Crowded => 10,
-        Refusal::UnitRecord => 11,
-        Refusal::NotCarried => 12,
-        Refusal::OutOfBounds => 13,
-        Refusal::BelowZero => 14,
-        Refusal::AboveBound => 15,
-        Refusal::OddRemaining => 16,
-        Refusal::NegativeLength => 17,
-        Refusal::SessionRecord => 18,
-        Refusal::ListTooLong => 19,
-    }
-}
 
 fn mix(sum: u32, word: u32) -> u32 {
     (((sum as u64) * 1000003 + (word as u64)) % 4294967296) as u32
@@ -78,7 +53,7 @@ fn show(opened: Opened) {
         }
         Opening::Refused(why) => {
             io::write_all(1, b"bad");
-            put(number(why));
+            put(listing::refusal_number(why) as u64);
         }
     }
     io::write_all(1, b"\n");

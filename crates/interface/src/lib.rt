@@ -9,7 +9,7 @@ ghost use Rattle.rules.specs.Search.{ordered, isAbsent};
 ghost use Rattle.interface.specs.Order.{fixedOrder};
 
 // "the least length"
-fn least(first: Length, second: Length) -> Length
+pub fn least(first: Length, second: Length) -> Length
     ensures { λ r. ⌜ r ≡ Reduce.least first second ⌝ }
 {
     match first {

@@ -4,7 +4,6 @@ use mathlib.Core.Path.{_≡_, refl, sym, ap, subst}
 use mathlib.Core.Logic.{⊎-elim}
 use mathlib.Core.Bool.{Bool, true, false}
 use native.Mathlib.Nat.{eq-or-lt-of-le, le-of-suc-le-suc, not-suc-le-zero}
-use native.Mathlib.Numerals.{add-one}
 use Rattle.laws.specs.Choice.{_and_, _or_}
 
 module _ {A : Type 0} where
@@ -27,15 +26,6 @@ abbrev pub allTo : (ℕ → Bool) → ℕ → Bool
 allTo p n = upTo (λ k a. a and p k) true n
 
 module _ {A : Type 0} (f : ℕ → A → A) (a : A) where
-  pub upTo-none : a ≡ upTo f a 0
-  unfolding upTo
-  upTo-none = refl
-
-  -- a loop's turn, with the code's n + 1
-  pub upTo-step : (n : ℕ) {b : A} → b ≡ upTo f a n → f n b ≡ upTo f a (n + 1)
-  unfolding upTo
-  upTo-step n p = rw (p, add-one n)
-
   -- what the start has and each turn keeps
   pub upTo-keeps : (P : A → Type 0) → P a → ((k : ℕ) (b : A) → P b → P (f k b)) → (n : ℕ) → P (upTo f a n)
   unfolding upTo

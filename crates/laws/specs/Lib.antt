@@ -14,3 +14,4 @@ pub mod Orders
 pub mod Appended
 pub mod Begun
 pub mod Placed
+pub mod Semilattice

@@ -77,18 +77,6 @@ module _ {A : Type 0} (f : ℕ → A) where
   unfolding paint
   getD-painted n xs k d h l = painted-at 0 n xs k d h l ∙ ap f (zero-add k)
 
-  unpainted-at : (i n : ℕ) (xs : List A) (k : ℕ) (d : A) → n ≤ k → getD (paintFrom i n f xs) k d ≡ getD xs k d
-  unfolding paintFrom
-  unpainted-at i zero xs k d h = refl
-  unpainted-at i (suc n) [] k d h = refl
-  unpainted-at i (suc n) (x ∷ xs) zero d h = absurd (not-suc-le-zero h)
-  unpainted-at i (suc n) (x ∷ xs) (suc k) d h = unpainted-at (suc i) n xs k d (le-of-suc-le-suc h)
-
-  -- from n on, the old entry
-  pub getD-unpainted : (n : ℕ) (xs : List A) (k : ℕ) (d : A) → n ≤ k → getD (paint n f xs) k d ≡ getD xs k d
-  unfolding paint
-  getD-unpainted n xs k d h = unpainted-at 0 n xs k d h
-
   -- an entry at any index: a new one, or what stood there
   module _ (P : A → Type 0) (d : A) where
     paintFrom-at : (i n : ℕ) (xs : List A) (k : ℕ) → (k < n → P (f (i + k))) → P (getD xs k d) → P (getD (paintFrom i n f xs) k d)

@@ -1,24 +1,21 @@
 -- The numbers of the stalled edges, one edge after the other.
-use Prim.Native.Nat.{ℕ, zero, suc, _+_, _≤_, _<_}
-use mathlib.Core.Path.{_≡_, refl, sym, ap, _∙_}
+use Prim.Native.Nat.{ℕ, _+_, _*_, _≤_, _<_}
+use mathlib.Core.Path.{_≡_, refl, sym}
 use mathlib.Core.Bool.{Bool, true, false, not}
 use mathlib.Core.List.{List, [], _∷_, _++_, append-nil, append-assoc}
-use native.Mathlib.Nat.{add-zero, zero-add, add-suc, suc-add}
-use native.Mathlib.Numerals.{add-one}
 use native.Mathlib.Omega.{arith}
-use lib.ListN.{length, take, getD}
-use lib.Seq.{take-all}
+use lib.ListN.{length, getD}
 use Rattle.rules.specs.Listing.{decimal, number, numbers}
 use Rattle.rules.specs.Pairs.{raisedFrom}
 use Rattle.laws.specs.Placed.{Wrote, wrote-then, wrote-nothing}
-use Rattle.listing.specs.Pairs.{edgeText}
+use Rattle.raised.specs.Below.{pairAt, pairsBelow, below-none, below-next, more-left, all-met, counting, stopping}
 use Rattle.listing.proofs.Digits.{at-most, room-after}
 
 -- ---- one edge
 
 module _ (e at : ℕ) (x : List ℕ) where
-  pub not-stalled : (b : Bool) → not b ≡ true → at + 5 ≤ length x → Wrote (edgeText e b) at x at x
-  unfolding edgeText
+  pub not-stalled : (b : Bool) → not b ≡ true → at + 5 ≤ length x → Wrote (numbers (pairAt e b)) at x at x
+  unfolding pairAt
   not-stalled true h r = let z : _≡_ {A = ℕ} 0 1 = cc in absurd (omega arith)
   not-stalled false h r = wrote-nothing at x (omega arith)
 
@@ -31,43 +28,33 @@ module _ (e at : ℕ) (x : List ℕ) where
       unfolding decimal
       edge-most h = omega (arith, at-most 10 3 e (omega arith))
 
-      pub stalled : (b : Bool) → not b ≡ false → Wrote (edgeText e b) at x next z
-      unfolding edgeText
-      stalled true h = wrote-then p q
+      pub stalled : (b : Bool) → not b ≡ false → Wrote (numbers (pairAt e b)) at x next z
+      unfolding pairAt
+      stalled true h = rw (append-nil (decimal e)) (wrote-then p q)
       stalled false h = let z : _≡_ {A = ℕ} 0 1 = cc in absurd (omega arith)
 
 pub ruleset edge = (not-stalled, room-for-edge, edge-most, stalled)
 
 -- ---- the edges below e
 
-unfoldable pub edgesBelow : List Bool → ℕ → List ℕ
-edgesBelow flags e = numbers (raisedFrom 0 (take e flags))
-
-one-more : (i e : ℕ) (flags : List Bool)
-    → numbers (raisedFrom i (take (suc e) flags)) ≡ numbers (raisedFrom i (take e flags)) ++ edgeText (i + e) (getD flags e false)
-unfolding edgeText
-one-more i zero [] = refl
-one-more i (suc e) [] = refl
-one-more i zero (true ∷ fs) = append-nil (number i) ∙ ap number (sym (add-zero i))
-one-more i zero (false ∷ fs) = refl
-one-more i (suc e) (true ∷ fs) =
-    rw (one-more (suc i) e fs, suc-add, ← add-suc)
-    (sym (append-assoc (number i) (numbers (raisedFrom (suc i) (take e fs))) (edgeText (i + suc e) (getD fs e false))))
-one-more i (suc e) (false ∷ fs) = rw (one-more (suc i) e fs, suc-add, ← add-suc)
+numbers-append : (ms ns : List ℕ) → numbers (ms ++ ns) ≡ numbers ms ++ numbers ns
+numbers-append [] ns = refl
+numbers-append (m ∷ ms) ns = rw (numbers-append ms ns) (sym (append-assoc (number m) (numbers ms) (numbers ns)))
 
 module _ (flags : List Bool) (at : ℕ) (x : List ℕ) where
-  pub edges-none : at + 5120 ≤ length x → Wrote (edgesBelow flags 0) at x at x
-  unfolding edgesBelow
-  edges-none r = wrote-nothing at x (omega arith)
+  pub edges-none : at + 5120 ≤ length x → Wrote (numbers (pairsBelow flags 0)) at x at x
+  edges-none r = rw (below-none flags) (wrote-nothing at x (omega arith))
 
-  pub edges-step : (e : ℕ) {mid next : ℕ} {y z : List ℕ} → Wrote (edgesBelow flags e) at x mid y → Wrote (edgeText e (getD flags e false)) mid y next z
-      → Wrote (edgesBelow flags (e + 1)) at x next z
-  unfolding edgesBelow
-  edges-step e p q = rw (add-one e, one-more 0 e flags, zero-add) (wrote-then p q)
+  pub edges-room : {met n : ℕ} → met < n → n ≡ length (raisedFrom 0 flags) → (e : ℕ) → met ≡ length (pairsBelow flags e) → length flags ≤ 1024
+      → (next : ℕ) (y : List ℕ) → next ≤ at + 5 * e → at + 5120 ≤ length x → length y ≡ length x → next + 5 ≤ length y
+  edges-room l counted e are-met h next y b r s = omega (arith, more-left flags l counted e are-met)
 
-  pub edges-end : (e : ℕ) {next : ℕ} {z text : List ℕ} → Wrote (edgesBelow flags e) at x next z → e ≤ length flags → length flags ≤ e
-      → text ≡ numbers (raisedFrom 0 flags) → Wrote text at x next z
-  unfolding edgesBelow
-  edges-end e p l g t = rw (t, ← take-all e flags g) p
+  pub edges-step : (e : ℕ) {mid next : ℕ} {y z : List ℕ} → Wrote (numbers (pairsBelow flags e)) at x mid y
+      → Wrote (numbers (pairAt e (getD flags e false))) mid y next z → Wrote (numbers (pairsBelow flags (e + 1))) at x next z
+  edges-step e p q = rw (below-next flags e, numbers-append) (wrote-then p q)
 
-pub ruleset edges = (edges-none, edges-step, edges-end)
+  pub edges-end : {met n : ℕ} → n ≤ met → n ≡ length (raisedFrom 0 flags) → (e : ℕ) → met ≡ length (pairsBelow flags e) → {next : ℕ} {z text : List ℕ}
+      → Wrote (numbers (pairsBelow flags e)) at x next z → text ≡ numbers (raisedFrom 0 flags) → Wrote text at x next z
+  edges-end g counted e are-met p t = rw (t, ← all-met flags g counted e are-met) p
+
+pub ruleset edges = (counting, stopping, edges-none, edges-room, edges-step, edges-end)

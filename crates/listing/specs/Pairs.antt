@@ -1,31 +1,22 @@
 -- The pair list as text.
-use Prim.Native.Nat.{ℕ, suc, _≤_}
-use mathlib.Core.Path.{_≡_, refl}
-use mathlib.Core.Bool.{Bool, true, false}
-use mathlib.Core.List.{List, [], _∷_}
+use Prim.Native.Nat.{ℕ, _≤_}
+use mathlib.Core.Path.{_≡_}
+use mathlib.Core.Bool.{Bool}
+use mathlib.Core.List.{List, _∷_}
 use native.Mathlib.Omega.{arith}
 use borrow.Author.Tests.{le-leb}
 use lib.ListN.{length}
 use Rattle.laws.specs.Choice.{pick}
-use Rattle.rules.specs.Listing.{number, numbers, replyText}
+use Rattle.rules.specs.Listing.{numbers, replyText}
 use Rattle.rules.specs.Pairs.{raisedFrom, pairs, listed}
 use Rattle.rules.specs.Run.{call, list}
+use Rattle.raised.specs.Below.{no-more}
 use Rattle.rules.specs.declared.graph.Graph.{Graph}
 use Rattle.rules.specs.declared.state.State.{State}
-
--- an edge's number where it is stalled
-unfoldable pub edgeText : ℕ → Bool → List ℕ
-edgeText e true = number e
-edgeText e false = []
 
 -- "`p` and edges"
 abbrev pub pairsText : List Bool → List ℕ
 pairsText stalled = 112 ∷ numbers (raisedFrom 0 stalled)
-
-no-more : (i : ℕ) (flags : List Bool) → length (raisedFrom i flags) ≤ length flags
-no-more i [] = omega arith
-no-more i (true ∷ flags) = let h = no-more (suc i) flags in omega arith
-no-more i (false ∷ flags) = let h = no-more (suc i) flags in omega arith
 
 -- this is what a session's call of kind 3 is answered
 pub pairs-told : (g : Graph) (s : State) → length (s .stalled) ≤ 1_024 → replyText (call g s (list 1_024) .reply) ≡ pairsText (s .stalled)

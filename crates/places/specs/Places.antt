@@ -5,6 +5,7 @@ use lib.ListN.{length, getD}
 use Rattle.laws.specs.Table.{table}
 use Rattle.laws.specs.Listed.{indices}
 use Rattle.rules.specs.Graph.{touches, farEnd, edgesInUse}
+use Rattle.places.specs.Ends.{reachOf}
 use Rattle.places.specs.declared.Places.{Places}
 
 -- what a place's word says: the edge, and its far end
@@ -35,4 +36,4 @@ module _ (es : List ℕ) where
 
   -- the places of the first n edges, as far as these are in use
   unfoldable pub placed : ℕ → Places
-  placed n = record { ne = edgesInUse es n; degrees = degreesOf (edgesInUse es n); places = placesOf (edgesInUse es n) }
+  placed n = record { ne = edgesInUse es n; reach = reachOf es (edgesInUse es n); degrees = degreesOf (edgesInUse es n); places = placesOf (edgesInUse es n) }

@@ -1,5 +1,5 @@
 -- One edge more, given by its word w, where ds and ps are the degrees and places so far.
-use Prim.Native.Nat.{ℕ, _+_, _*_, _/_, _%_}
+use Prim.Native.Nat.{ℕ, _+_, _*_, _/_, _%_, max}
 use mathlib.Core.Bool.{Bool, not}
 use mathlib.Core.List.{List}
 use lib.Dec.{eqb, ltb}
@@ -12,6 +12,10 @@ left w = w % 256
 
 abbrev pub right : ℕ → ℕ
 right w = w / 256 % 256
+
+-- past r, and past both ends
+abbrev pub beyond : ℕ → ℕ → ℕ
+beyond r w = max (max r (left w + 1)) (right w + 1)
 
 module _ (ds : List ℕ) where
   -- it is no loop, and finds a place at each end

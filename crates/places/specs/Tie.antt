@@ -100,14 +100,6 @@ module _ (es ps ds : List ℕ) (n m v : ℕ) (used : n ≡ edgesInUse es m) (p :
       (upTo-same (λ k c. f (getD ps (v * 16 + k) 0) c) (λ k c. f (placeWord es v (getD (touching es n v) k 0)) c) a (length (touching es n v)) (λ k c l. ap (λ (w : ℕ). f w c) (place-is k l))
       ∙ walk-indices (λ e c. f (placeWord es v e) c) a (touches es v) n)
 
-  pub count-places : (q : ℕ → Bool) → countTo (λ k. q (getD ps (v * 16 + k) 0)) (getD ds v 0) ≡ countTo (λ e. touches es v e and q (placeWord es v e)) n
-  count-places q = walk-places (λ w c. c + bit (q w)) 0 ∙ count-picked (touches es v) (λ e. q (placeWord es v e)) n
-
-  pub first-places : {B : Type 0} (h : ℕ → Option B)
-      → first (getD ds v 0) (λ k. h (getD ps (v * 16 + k) 0)) ≡ first n (λ e. pick (touches es v e) (h (placeWord es v e)) none)
-  first-places h =
-      first-fold (getD ds v 0) (λ k. h (getD ps (v * 16 + k) 0)) ∙ walk-places (λ w c. orElse c (h w)) none ∙ first-picked (touches es v) (λ e. h (placeWord es v e)) n
-
   -- ---- the same, with each place read as its edge and its far end
 
   module _ (most : m ≤ 1_024) where

@@ -6,6 +6,7 @@ use lib.ListN.{getD}
 use Rattle.laws.specs.Choice.{pick}
 use Rattle.laws.specs.Fold.{upTo}
 use Rattle.rules.specs.Graph.{touches, farEnd, edgesInUse}
+use Rattle.places.specs.Ends.{Ends, ends}
 use Rattle.places.specs.Places.{edgeIn, farIn, placesOf, degreesOf, placed}
 use Rattle.places.specs.Tie.{degree-most, walk-edges}
 
@@ -20,6 +21,10 @@ pub record Wired (es : List ℕ) (ne : ℕ) (ps ds : List ℕ) : Type 0 where
 pub wired : (es : List ℕ) (m : ℕ) → m ≤ 1_024 → Wired es (placed es m .ne) (placed es m .places) (placed es m .degrees)
 unfolding placed
 wired es m l = record { limit = m; small = l; used = refl; listed = refl; counted = refl }
+
+pub ends-placed : (es : List ℕ) (m : ℕ) → Ends es (placed es m .ne) (placed es m .reach)
+unfolding placed
+ends-placed es m = ends es (edgesInUse es m)
 
 module _ {es ps ds : List ℕ} {ne : ℕ} (w : Wired es ne ps ds) (v : ℕ) (u : v < 256) where
   pub degree-wired : getD ds v 0 ≤ 16

@@ -1,14 +1,16 @@
 // Sixteen places at a vertex: its edges in edge order, so that a walk over a vertex's edges is a walk over its places.
+use rules::graph::at_most;
 ghost use mathlib.Core.Bool.{true};
 ghost use mathlib.Core.Path.{_≡_};
-ghost use Prim.Native.Nat.{_<_, min};
+ghost use Prim.Native.Nat.{_<_, max, min};
 ghost use Rattle.laws.specs.Table.{table};
 ghost use Rattle.places.specs.Places.{placed};
-ghost use Rattle.places.specs.Put.{hasRoom, moreDegrees, morePlaces};
+ghost use Rattle.places.specs.Put.{beyond, hasRoom, moreDegrees, morePlaces};
 
-// The first `ne` edges are in use. A place holds the edge in 10 bits and the far end above these.
+// The first `ne` edges are in use, and no end of them stands at `reach` or beyond. A place holds the edge in 10 bits and the far end above these.
 pub struct Places {
     pub ne: usize,
+    pub reach: usize,
     pub degrees: [u8; 256],
     pub places: [u32; 4096],
 }
@@ -23,12 +25,6 @@ fn no_places() -> [u32; 4096]
     ensures { λ r. ⌜ r ≡ table 4_096 (λ p. 0) ⌝ }
 {
     [0u32; 4096]
-}
-
-fn at_most_1024(n: usize) -> usize
-    ensures { λ r. ⌜ r ≡ min n 1_024 ⌝ }
-{
-    if n < 1024 { n } else { 1024 }
 }
 
 // Whether an edge is no loop and finds a place at each end. The left end stands in its lowest 8 bits, the right end in the next 8.
@@ -62,13 +58,29 @@ fn put(degrees: &mut [u8; 256], places: &mut [u32; 4096], e: usize, edge: u32)
     degrees[right] = (at_right + 1) as u8;
 }
 
+fn greater(a: usize, b: usize) -> usize
+    ensures { λ r. ⌜ r ≡ max a b ⌝ }
+{
+    if a < b { b } else { a }
+}
+
+// The reach that takes in an edge too.
+fn reach_to(reach: usize, edge: u32) -> usize
+    ensures { λ r. ⌜ r ≡ beyond reach edge ⌝ }
+{
+    let left = (edge % 256) as usize;
+    let right = (edge / 256 % 256) as usize;
+    greater(greater(reach, left + 1), right + 1)
+}
+
 // The places of the first `ne` edges, up to an edge that is a loop or some end's 17th.
 pub fn place_edges(edges: &[u32; 1024], ne: usize) -> Places
     ensures { λ r. ⌜ r ≡ placed (now (edges .entry)) (min ne 1_024) ⌝ }
 {
-    let n = at_most_1024(ne);
+    let n = at_most(ne, 1_024);
     let mut degrees = no_degrees();
     let mut places = no_places();
+    let mut reach: usize = 0;
     let mut e: usize = 0;
     while e < n {
         let edge = edges[e];
@@ -76,10 +88,12 @@ pub fn place_edges(edges: &[u32; 1024], ne: usize) -> Places
             break;
         }
         put(&mut degrees, &mut places, e, edge);
+        reach = reach_to(reach, edge);
         e += 1;
     }
     Places {
         ne: e,
+        reach: reach,
         degrees: degrees,
         places: places,
     }

@@ -11,7 +11,7 @@ use Rattle.laws.specs.Table.{paint}
 use Rattle.rules.specs.Graph.{leftOf, rightOf, conditionOf, touches, farEnd}
 use Rattle.rules.specs.Registers.{at, growing}
 use Rattle.rules.specs.Fetch.{reduced, fetchWeight, fetched, tight, countedTight, tightCount}
-use Rattle.rules.specs.Units.{raise, eager, isOther, permits, defectMatch, virtualMatch, fusionMatch, holds, stallsAround, stalls, stalledVertices, stalledEdges}
+use Rattle.rules.specs.Units.{raise, eager, isOther, permits, defectMatch, virtualMatch, fusionMatch, holds, stallsAround, stalls, stalledVertices}
 use Rattle.rules.specs.Execute.{execute, executeAt, executed}
 use Rattle.rules.specs.Peer.{peer}
 use Rattle.rules.specs.Update.{isLoose, follow, update, updated}
@@ -118,7 +118,3 @@ module _ (es rs us fs : List ℕ) (ne : ℕ) (k : (v : ℕ) → Kept (at rs v) (
   pub vertices-same : (units : List ℕ) (nu : ℕ) → stalledVertices es us fs ne units nu ≡ stalledVertices es rs fs ne units nu
   unfolding stalledVertices
   vertices-same units nu = simp (holds-same, stalls-same)
-
-  pub edges-same : (units : List ℕ) (nu : ℕ) → stalledEdges es us fs ne units nu ≡ stalledEdges es rs fs ne units nu
-  unfolding stalledEdges
-  edges-same units nu = simp holds-same

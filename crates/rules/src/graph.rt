@@ -2,6 +2,8 @@
 use crate::index::EdgeIndex;
 use crate::index::VertexIndex;
 use crate::refusal::Refusal;
+ghost use mathlib.Core.Path.{_≡_};
+ghost use Prim.Native.Nat.{min};
 
 pub enum OffloadingType {
     DefectMatch {
@@ -38,4 +40,11 @@ pub enum Opening {
 pub struct Opened {
     pub graph: Graph,
     pub opening: Opening,
+}
+
+// A count that goes no further than its table.
+pub fn at_most(n: usize, most: usize) -> usize
+    ensures { λ r. ⌜ r ≡ min n most ⌝ }
+{
+    if n < most { n } else { most }
 }

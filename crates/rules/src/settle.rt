@@ -1,6 +1,4 @@
-// Stages 4 to 7 on one vertex: the registers that are written, what edges see of them, and what the vertex reports.
-use crate::finding::Finding;
-use crate::finding::Length;
+// Stages 4 to 6 on one vertex: the registers that are written, and what edges see of them.
 use crate::index::NodeIndex;
 use crate::instruction::CompactGrowState;
 use crate::registers::PropagatingPeer;
@@ -11,7 +9,6 @@ ghost use Rattle.laws.specs.Choice.{pick, _and_};
 ghost use Rattle.rules.specs.Execute as Execute;
 ghost use Rattle.rules.specs.Peer.{isPropagating};
 ghost use Rattle.rules.specs.Registers as Registers;
-ghost use Rattle.rules.specs.Respond.{vertexReport};
 ghost use Rattle.rules.specs.Shadow as Shadow;
 ghost use Rattle.rules.specs.Update as Update;
 ghost use Rattle.rules.specs.declared.instruction.CompactGrowState.the-variants.{Stay};
@@ -142,16 +139,5 @@ impl VertexRegisters {
             return seen.with_speed(CompactGrowState::Stay);
         }
         seen
-    }
-
-    // "A vertex at Shrink after stage 5 reports its new grown amount"
-    pub fn report(self) -> Finding
-        ensures { λ r. ⌜ r ≡ vertexReport self ⌝ }
-    {
-        let speed = self.speed;
-        if speed.is_shrinking() {
-            return Finding::GrowLength(Length::Ahead(self.grown));
-        }
-        Finding::GrowLength(Length::NoLimit)
     }
 }

@@ -42,7 +42,7 @@ module _ (g : Graph) where
       rw (record-again s k (valueOf a b c d), chunk-again rest (one .state) (room - length (one .text)))
 
 -- so is the chunk on the tables that are made of the graph
-module _ (g : Graph) (p : Places) (c : Counts) (made : p ≡ placed (g .edges) (min (g .ne) 1_024)) (counted : c ≡ countsOf (g .nv) (p .ne) (g .nu))
+module _ (g : Graph) (p : Places) (c : Counts) (made : p ≡ placed (g .edges) (min (g .ne) 1_024)) (counted : c ≡ countsOf (g .nv) (p .ne) (p .reach) (g .nu))
     (s : State) (room : ℕ) (bs : List ℕ) where
   lent-chunk : chunk (graphIn c (g .vertices) (g .edges) (g .units) (g .weights)) s room bs ≡ chunk g s room bs
   lent-chunk = rw (tables-in-use g p c made counted) (chunk-again g bs s room)

@@ -125,7 +125,7 @@ pub fn run_chunk(graph: Graph, state: State, bytes: &[u8], out: &mut [u8]) -> Do
     ensures { λ r. ⌜ (r .used ≤ length (now (bytes .entry))) × (r .written ≤ length (now (out .entry))) ⌝ }
 {
     let wiring = place_edges(&graph.edges, graph.ne);
-    let counts = counts_of(graph.nv, wiring.ne, graph.nu);
+    let counts = counts_of(graph.nv, wiring.ne, wiring.reach, graph.nu);
     run_records(
         counts,
         &graph.vertices,

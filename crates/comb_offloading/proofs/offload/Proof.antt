@@ -1,6 +1,7 @@
 -- The loop holds the flags after the units passed. The measure is what is left of the units.
 use Prim.Native.Nat.{_≤_, _-_}
 use mathlib.Core.Path.{_≡_}
+use Rattle.rules.specs.Fetch.{fetched}
 use Rattle.rules.specs.Units.{stalls}
 use Rattle.comb_offloading.specs.Unit.{within}
 use Rattle.comb_offloading.specs.Offload.{stallsEdge, byUnits}
@@ -10,15 +11,15 @@ use Rattle.comb_offloading.proofs.offload.Statement.{statement}
 use Rattle.comb_offloading.proofs.offload.Tie as tie
 
 abbrev Inv-loop : tie.InvT-loop
-Inv-loop units nu edges fetched registers places degrees ne vertices₀ stalled₀ n k₀ vertices stalled k =
-    (k ≤ n) × (vertices ≡ byUnits edges registers fetched ne (stalls edges registers fetched ne) units vertices₀ k)
-    × (stalled ≡ byUnits edges registers fetched ne stallsEdge units stalled₀ k)
+Inv-loop units nu edges weights registers places degrees ne vertices₀ stalled₀ n k₀ vertices stalled k =
+    (k ≤ n) × (vertices ≡ byUnits edges registers (fetched edges registers weights ne) ne (stalls edges registers (fetched edges registers weights ne) ne) units vertices₀ k)
+    × (stalled ≡ byUnits edges registers (fetched edges registers weights ne) ne stallsEdge units stalled₀ k)
 
 abbrev μ-loop : tie.MeasureT-loop
-μ-loop units nu edges fetched registers places degrees ne vertices₀ stalled₀ n k₀ vertices stalled k = n - k
+μ-loop units nu edges weights registers places degrees ne vertices₀ stalled₀ n k₀ vertices stalled k = n - k
 
-at-most-2048-requires : tie.Need-at-most-2048-requires Inv-loop μ-loop
-at-most-2048-requires c κs = search (needs, turns)
+at-most-requires : tie.Need-at-most-requires Inv-loop μ-loop
+at-most-requires c κs = search (needs, turns)
 
 loop-holds : tie.Need-loop-holds Inv-loop μ-loop
 loop-holds c = search (needs, turns)
@@ -53,7 +54,7 @@ offload-spec =
     (tie.spec
     Inv-loop
     μ-loop
-    at-most-2048-requires
+    at-most-requires
     loop-holds
     mul-unit-of
     element-copy-out-unit-of

@@ -1,24 +1,29 @@
--- Both tables are painted vertex by vertex, and the finding so far is the fold so far over the table to be.
+-- Both tables are painted vertex by vertex, and the length so far is the fold so far over the table to be.
 use Prim.Native.Nat.{_≤_, _-_}
 use mathlib.Core.Path.{_≡_}
 use Rattle.laws.specs.Table.{paint, paint-step}
 use Rattle.rules.specs.Reduce.{vertexFinding}
+use Rattle.rules.specs.declared.finding.Finding.the-variants.{GrowLength}
 use Rattle.comb_settle.proofs.Reporting.{reporting, one-more, filled, all-told}
+use Rattle.rules.specs.Fetch.{fetched}
 use Rattle.comb_settle.specs.Settled.{updatedWord, shadowWord}
 use borrow.Author.Needs.{needs}
 use Rattle.comb_settle.proofs.settle.Statement.{statement}
 use Rattle.comb_settle.proofs.settle.Tie as tie
 
 abbrev Inv-loop : tie.InvT-loop
-Inv-loop vertices places degrees edges fetched executed stalled nv updated₀ shadows₀ n finding₀ v₀ updated shadows finding v =
-    (v ≤ n) × (updated ≡ paint v (updatedWord edges fetched executed places degrees) updated₀) × (shadows ≡ paint v (shadowWord vertices edges fetched executed places degrees stalled) shadows₀)
-    × (finding ≡ vertexFinding (paint n (updatedWord edges fetched executed places degrees) updated₀) v)
+Inv-loop vertices places degrees edges weights before ne executed stalled nv reach updated₀ shadows₀ n marks length₀ v₀ updated shadows length v =
+    (v ≤ n) × (updated ≡ paint v (updatedWord edges (fetched edges before weights ne) executed places degrees) updated₀) × (shadows ≡ paint v (shadowWord vertices edges (fetched edges before weights ne) executed places degrees stalled) shadows₀)
+    × (GrowLength length ≡ vertexFinding (paint n (updatedWord edges (fetched edges before weights ne) executed places degrees) updated₀) v)
 
 abbrev μ-loop : tie.MeasureT-loop
-μ-loop vertices places degrees edges fetched executed stalled nv updated₀ shadows₀ n finding₀ v₀ updated shadows finding v = n - v
+μ-loop vertices places degrees edges weights before ne executed stalled nv reach updated₀ shadows₀ n marks length₀ v₀ updated shadows length v = n - v
 
-at-most-256-requires : tie.Need-at-most-256-requires Inv-loop μ-loop
-at-most-256-requires c κs = search (needs, reporting)
+at-most-requires : tie.Need-at-most-requires Inv-loop μ-loop
+at-most-requires c κs = search (needs, reporting)
+
+mark-led-requires : tie.Need-mark-led-requires Inv-loop μ-loop
+mark-led-requires c κs = search (needs, reporting)
 
 loop-holds : tie.Need-loop-holds Inv-loop μ-loop
 loop-holds c = search (needs, reporting)
@@ -41,14 +46,14 @@ mul-shadows c = search (needs, reporting)
 element-write-shadows : tie.Need-element-write-shadows Inv-loop μ-loop
 element-write-shadows c = search (needs, reporting)
 
-mul-reported : tie.Need-mul-reported Inv-loop μ-loop
-mul-reported c = search (needs, reporting)
+mul-shortest : tie.Need-mul-shortest Inv-loop μ-loop
+mul-shortest c = search (needs, reporting)
 
-element-copy-out-reported : tie.Need-element-copy-out-reported Inv-loop μ-loop
-element-copy-out-reported c = search (needs, reporting)
+element-copy-out-shortest : tie.Need-element-copy-out-shortest Inv-loop μ-loop
+element-copy-out-shortest c = search (needs, reporting)
 
-reported-requires : tie.Need-reported-requires Inv-loop μ-loop
-reported-requires c κs = search (needs, reporting)
+shortest-requires : tie.Need-shortest-requires Inv-loop μ-loop
+shortest-requires c κs = search (needs, reporting)
 
 add-v : tie.Need-add-v Inv-loop μ-loop
 add-v c = search (needs, reporting)
@@ -59,7 +64,8 @@ loop-less c = search (needs, reporting)
 loop-again : tie.Need-loop-again Inv-loop μ-loop
 loop-again c =
     let made = c .before .before .settle-at .ensures in
-    (search needs, search (needs, paint-step, made .0), search (needs, paint-step, made .1), one-more _ _ _ _ _ _ _ _ (c .reported .ensures) (c .before .before .before .before .loop .inv .3) (c .before .before .before .before .loop .inv .1) (made .0) (search needs))
+    let so-far = c .before .before .before .before .before .loop .inv in
+    (search needs, search (needs, paint-step, made .0), search (needs, paint-step, made .1), one-more _ _ _ _ _ _ _ _ (c .shortest .ensures) (so-far .3) (so-far .1) (made .0) (search needs))
 
 returns : tie.Need-returns Inv-loop μ-loop
 returns c = (search (needs, filled), (search (needs, filled), search (needs, all-told)))
@@ -70,7 +76,8 @@ settle-spec =
     (tie.spec
     Inv-loop
     μ-loop
-    at-most-256-requires
+    at-most-requires
+    mark-led-requires
     loop-holds
     cast-settle-at
     settle-at-requires
@@ -78,9 +85,9 @@ settle-spec =
     element-write-updated
     mul-shadows
     element-write-shadows
-    mul-reported
-    element-copy-out-reported
-    reported-requires
+    mul-shortest
+    element-copy-out-shortest
+    shortest-requires
     add-v
     loop-less
     loop-again

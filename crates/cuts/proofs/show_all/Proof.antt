@@ -39,8 +39,8 @@ slice-aggregate-write-all c = search needs
 write-all-requires : tie.Need-write-all-requires Inv-loop μ-loop
 write-all-requires c κs = search needs
 
-lesser-requires : tie.Need-lesser-requires Inv-loop μ-loop
-lesser-requires c κs = search needs
+at-most-requires : tie.Need-at-most-requires Inv-loop μ-loop
+at-most-requires c κs = search needs
 
 sub-show : tie.Need-sub-show Inv-loop μ-loop
 sub-show c = search needs
@@ -87,7 +87,7 @@ show-all-spec =
     returns
     slice-aggregate-write-all
     write-all-requires
-    lesser-requires
+    at-most-requires
     sub-show
     part-show-start
     part-show-end

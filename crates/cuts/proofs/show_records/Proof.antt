@@ -12,8 +12,8 @@ Inv-loop graph session start out₀ state₀ from₀ piece₀ turns₀ out state
 abbrev μ-loop : tie.MeasureT-loop
 μ-loop graph session start out₀ state₀ from₀ piece₀ turns₀ out state from piece turns = turns
 
-lesser-requires : tie.Need-lesser-requires Inv-loop μ-loop
-lesser-requires c κs = search needs
+at-most-requires : tie.Need-at-most-requires Inv-loop μ-loop
+at-most-requires c κs = search needs
 
 loop-holds : tie.Need-loop-holds Inv-loop μ-loop
 loop-holds c = search needs
@@ -21,11 +21,11 @@ loop-holds c = search needs
 sub-turns : tie.Need-sub-turns Inv-loop μ-loop
 sub-turns c = search needs
 
-sub-lesser : tie.Need-sub-lesser Inv-loop μ-loop
-sub-lesser c = search needs
+sub-at-most : tie.Need-sub-at-most Inv-loop μ-loop
+sub-at-most c = search needs
 
-lesser-requires-2 : tie.Need-lesser-requires-2 Inv-loop μ-loop
-lesser-requires-2 c κs = search needs
+at-most-requires-2 : tie.Need-at-most-requires-2 Inv-loop μ-loop
+at-most-requires-2 c κs = search needs
 
 add-to : tie.Need-add-to Inv-loop μ-loop
 add-to c = search needs
@@ -87,11 +87,11 @@ show-records-spec =
     (tie.spec
     Inv-loop
     μ-loop
-    lesser-requires
+    at-most-requires
     loop-holds
     sub-turns
-    sub-lesser
-    lesser-requires-2
+    sub-at-most
+    at-most-requires-2
     add-to
     sub-run-chunk
     part-run-chunk-start

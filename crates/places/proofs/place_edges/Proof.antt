@@ -1,5 +1,6 @@
--- The loop holds the places and degrees of the edges passed, which are all in use. The measure is what is left of n.
+-- The loop holds the places, degrees and reach of the edges passed, which are all in use. The measure is what is left of n.
 use Rattle.places.proofs.Turns.{turns, turn-places}
+use Rattle.places.specs.Ends.{reachOf}
 use Rattle.places.specs.Places.{placesOf, degreesOf}
 use Rattle.rules.specs.Graph.{edgesInUse}
 use mathlib.Core.Path.{_≡_}
@@ -9,14 +10,14 @@ use Rattle.places.proofs.place_edges.Statement.{statement}
 use Rattle.places.proofs.place_edges.Tie as tie
 
 abbrev Inv-loop : tie.InvT-loop
-Inv-loop edges ne n degrees₀ places₀ e₀ degrees places e =
-    (e ≤ n) × (degrees ≡ degreesOf edges e) × (places ≡ placesOf edges e) × (edgesInUse edges e ≡ e)
+Inv-loop edges ne n degrees₀ places₀ reach₀ e₀ degrees places reach e =
+    (e ≤ n) × (degrees ≡ degreesOf edges e) × (places ≡ placesOf edges e) × (edgesInUse edges e ≡ e) × (reach ≡ reachOf edges e)
 
 abbrev μ-loop : tie.MeasureT-loop
-μ-loop edges ne n degrees₀ places₀ e₀ degrees places e = n - e
+μ-loop edges ne n degrees₀ places₀ reach₀ e₀ degrees places reach e = n - e
 
-at-most-1024-requires : tie.Need-at-most-1024-requires Inv-loop μ-loop
-at-most-1024-requires c κs = search (needs, turns)
+at-most-requires : tie.Need-at-most-requires Inv-loop μ-loop
+at-most-requires c κs = search (needs, turns)
 
 no-degrees-requires : tie.Need-no-degrees-requires Inv-loop μ-loop
 no-degrees-requires c κs = search (needs, turns)
@@ -39,6 +40,9 @@ has-room-requires c κs = search (needs, turns)
 put-requires : tie.Need-put-requires Inv-loop μ-loop
 put-requires c κs = search (needs, turns)
 
+reach-to-requires : tie.Need-reach-to-requires Inv-loop μ-loop
+reach-to-requires c κs = search (needs, turns)
+
 add-e : tie.Need-add-e Inv-loop μ-loop
 add-e c = search (needs, turns)
 
@@ -49,7 +53,8 @@ loop-again : tie.Need-loop-again Inv-loop μ-loop
 loop-again c = (
   search needs,
   search turns,
-  turn-places _ _ _ _ _ _ (c .put .ensures .1) (search needs) (search needs) (c .before .before .before .before .has-room .ensures) (search needs),
+  turn-places _ _ _ _ _ _ (c .before .put .ensures .1) (search needs) (search needs) (c .before .before .before .before .before .has-room .ensures) (search needs),
+  search turns,
   search turns,
 )
 
@@ -65,7 +70,7 @@ place-edges-spec =
     (tie.spec
     Inv-loop
     μ-loop
-    at-most-1024-requires
+    at-most-requires
     no-degrees-requires
     no-places-requires
     loop-holds
@@ -73,6 +78,7 @@ place-edges-spec =
     element-copy-out-edge
     has-room-requires
     put-requires
+    reach-to-requires
     add-e
     loop-less
     loop-again

@@ -14,8 +14,8 @@ Inv-loop vertices nv n out₀ v₀ out v = (v ≤ n) × (out ≡ paint v (freshW
 abbrev μ-loop : tie.MeasureT-loop
 μ-loop vertices nv n out₀ v₀ out v = n - v
 
-lesser-requires : tie.Need-lesser-requires Inv-loop μ-loop
-lesser-requires c κs = search (needs, fills)
+at-most-requires : tie.Need-at-most-requires Inv-loop μ-loop
+at-most-requires c κs = search (needs, fills)
 
 no-registers-requires : tie.Need-no-registers-requires Inv-loop μ-loop
 no-registers-requires c κs = search (needs, fills)
@@ -53,7 +53,7 @@ fresh-registers-spec =
     (tie.spec
     Inv-loop
     μ-loop
-    lesser-requires
+    at-most-requires
     no-registers-requires
     loop-holds
     cast-fresh-word

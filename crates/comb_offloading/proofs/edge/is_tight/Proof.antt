@@ -13,17 +13,14 @@ mul-post-fetch-is-tight c = search needs
 element-copy-out-post-fetch-is-tight : tie.Need-element-copy-out-post-fetch-is-tight
 element-copy-out-post-fetch-is-tight c = search needs
 
-mul-post-fetch-is-tight-2 : tie.Need-mul-post-fetch-is-tight-2
-mul-post-fetch-is-tight-2 c = search needs
-
-element-copy-out-post-fetch-is-tight-2 : tie.Need-element-copy-out-post-fetch-is-tight-2
-element-copy-out-post-fetch-is-tight-2 c = search needs
+fetch-weight-requires : tie.Need-fetch-weight-requires
+fetch-weight-requires c κs = search needs
 
 post-fetch-is-tight-requires : tie.Need-post-fetch-is-tight-requires
 post-fetch-is-tight-requires c κs = search needs
 
 returns : tie.Need-returns
-returns c = rw tight-by (c .post-fetch-is-tight .ensures)
+returns c = rw (tight-by, ← c .before .fetch-weight .ensures) (c .post-fetch-is-tight .ensures)
 
 pub is-tight-spec : {M : Type 1} → statement M
 is-tight-spec =
@@ -32,7 +29,6 @@ is-tight-spec =
     cast-e
     mul-post-fetch-is-tight
     element-copy-out-post-fetch-is-tight
-    mul-post-fetch-is-tight-2
-    element-copy-out-post-fetch-is-tight-2
+    fetch-weight-requires
     post-fetch-is-tight-requires
     returns)

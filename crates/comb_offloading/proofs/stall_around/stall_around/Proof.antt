@@ -2,6 +2,7 @@
 -- The measure is what is left of the places.
 use Prim.Native.Nat.{_≤_, _-_}
 use mathlib.Core.Path.{_≡_}
+use Rattle.rules.specs.Fetch.{fetched}
 use Rattle.places.specs.Wired.{degree-wired}
 use Rattle.comb_offloading.specs.Around.{stallsAlong}
 use Rattle.comb_offloading.proofs.Walk.{stalling}
@@ -10,11 +11,11 @@ use Rattle.comb_offloading.proofs.stall_around.stall_around.Statement.{
 use Rattle.comb_offloading.proofs.stall_around.stall_around.Tie as tie
 
 abbrev Inv-loop : tie.InvT-loop
-Inv-loop edge edges fetched registers places degrees ne vertices₀ v n k₀ vertices k =
-    (n ≤ 16) × (k ≤ n) × (vertices ≡ stallsAlong edges registers fetched (edge .0) places v vertices₀ k)
+Inv-loop edge edges weights registers places degrees ne vertices₀ v n k₀ vertices k =
+    (n ≤ 16) × (k ≤ n) × (vertices ≡ stallsAlong edges registers (fetched edges registers weights ne) (edge .0) places v vertices₀ k)
 
 abbrev μ-loop : tie.MeasureT-loop
-μ-loop edge edges fetched registers places degrees ne vertices₀ v n k₀ vertices k = n - k
+μ-loop edge edges weights registers places degrees ne vertices₀ v n k₀ vertices k = n - k
 
 raise-requires : tie.Need-raise-requires Inv-loop μ-loop
 raise-requires c κs = search (needs, stalling)

@@ -3,6 +3,7 @@
 use Prim.Native.Nat.{_≤_, _-_}
 use mathlib.Core.Path.{_≡_}
 use mathlib.Core.Bool.{true}
+use Rattle.rules.specs.Fetch.{fetched}
 use Rattle.places.specs.Wired.{degree-wired}
 use Rattle.comb_offloading.specs.Around.{allPermit}
 use Rattle.comb_offloading.proofs.Walk.{permitting}
@@ -11,11 +12,11 @@ use Rattle.comb_offloading.proofs.virtual_match.all_permit.Statement.{s
 use Rattle.comb_offloading.proofs.virtual_match.all_permit.Tie as tie
 
 abbrev Inv-loop : tie.InvT-loop
-Inv-loop edge edges fetched registers places degrees ne v n k₀ k =
-    (n ≤ 16) × (k ≤ n) × (allPermit edges registers fetched (edge .0) places v ne k ≡ true)
+Inv-loop edge edges weights registers places degrees ne v n k₀ k =
+    (n ≤ 16) × (k ≤ n) × (allPermit edges registers (fetched edges registers weights ne) (edge .0) places v ne k ≡ true)
 
 abbrev μ-loop : tie.MeasureT-loop
-μ-loop edge edges fetched registers places degrees ne v n k₀ k = n - k
+μ-loop edge edges weights registers places degrees ne v n k₀ k = n - k
 
 cast-v : tie.Need-cast-v Inv-loop μ-loop
 cast-v c = search (needs, permitting)

@@ -17,8 +17,8 @@ Inv-loop vertices registers stalled instruction nv out₀ n v₀ out v =
 abbrev μ-loop : tie.MeasureT-loop
 μ-loop vertices registers stalled instruction nv out₀ n v₀ out v = n - v
 
-at-most-256-requires : tie.Need-at-most-256-requires Inv-loop μ-loop
-at-most-256-requires c κs = search (needs, executing)
+at-most-requires : tie.Need-at-most-requires Inv-loop μ-loop
+at-most-requires c κs = search (needs, executing)
 
 loop-holds : tie.Need-loop-holds Inv-loop μ-loop
 loop-holds c = search (needs, executing)
@@ -98,7 +98,7 @@ execute-spec =
     (tie.spec
     Inv-loop
     μ-loop
-    at-most-256-requires
+    at-most-requires
     loop-holds
     cast-is-concerned
     is-concerned-requires

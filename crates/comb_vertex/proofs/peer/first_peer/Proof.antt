@@ -1,6 +1,7 @@
 -- No place passed serves. The measure is what is left of the degree.
 use Rattle.comb_vertex.proofs.Walks.{walks}
 use Rattle.laws.specs.First.{first}
+use Rattle.rules.specs.Fetch.{fetched}
 use Rattle.comb_vertex.specs.Led.{servedAt}
 use mathlib.Core.Option.{none}
 use mathlib.Core.Path.{_≡_}
@@ -10,11 +11,11 @@ use Rattle.comb_vertex.proofs.peer.first_peer.Statement.{statement}
 use Rattle.comb_vertex.proofs.peer.first_peer.Tie as tie
 
 abbrev Inv-loop : tie.InvT-loop
-Inv-loop v places degrees edges fetched executed degree k₀ k =
-    (k ≤ degree) × (first k (servedAt edges fetched executed places v) ≡ none)
+Inv-loop v places degrees edges weights before ne executed degree k₀ k =
+    (k ≤ degree) × (first k (servedAt edges (fetched edges before weights ne) executed places v) ≡ none)
 
 abbrev μ-loop : tie.MeasureT-loop
-μ-loop v places degrees edges fetched executed degree k₀ k = degree - k
+μ-loop v places degrees edges weights before ne executed degree k₀ k = degree - k
 
 degree-of-requires : tie.Need-degree-of-requires Inv-loop μ-loop
 degree-of-requires c κs = search (needs, walks)

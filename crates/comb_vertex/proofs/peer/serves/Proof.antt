@@ -24,18 +24,15 @@ mul-post-fetch-is-tight c = search needs
 element-copy-out-post-fetch-is-tight : tie.Need-element-copy-out-post-fetch-is-tight
 element-copy-out-post-fetch-is-tight c = search needs
 
-mul-post-fetch-is-tight-2 : tie.Need-mul-post-fetch-is-tight-2
-mul-post-fetch-is-tight-2 c = search needs
-
-element-copy-out-post-fetch-is-tight-2 : tie.Need-element-copy-out-post-fetch-is-tight-2
-element-copy-out-post-fetch-is-tight-2 c = search needs
+fetch-weight-requires : tie.Need-fetch-weight-requires
+fetch-weight-requires c κs = search needs
 
 post-fetch-is-tight-requires : tie.Need-post-fetch-is-tight-requires
 post-fetch-is-tight-requires c κs = search needs
 
 returns : tie.Need-returns
 unfolding servesTo
-returns c = rw (← c .before .before .before .before .before .at .ensures, tight-by) (search (needs, tests))
+returns c = rw (← c .before .before .before .before .before .at .ensures, tight-by, ← c .before .fetch-weight .ensures) (search (needs, tests))
 
 returns-2 : tie.Need-returns-2
 unfolding servesTo
@@ -51,8 +48,7 @@ serves-spec =
     cast-e
     mul-post-fetch-is-tight
     element-copy-out-post-fetch-is-tight
-    mul-post-fetch-is-tight-2
-    element-copy-out-post-fetch-is-tight-2
+    fetch-weight-requires
     post-fetch-is-tight-requires
     returns
     returns-2)

@@ -17,18 +17,15 @@ mul-post-fetch-count-tight c = search needs
 element-copy-out-post-fetch-count-tight : tie.Need-element-copy-out-post-fetch-count-tight
 element-copy-out-post-fetch-count-tight c = search needs
 
-mul-post-fetch-count-tight-2 : tie.Need-mul-post-fetch-count-tight-2
-mul-post-fetch-count-tight-2 c = search needs
-
-element-copy-out-post-fetch-count-tight-2 : tie.Need-element-copy-out-post-fetch-count-tight-2
-element-copy-out-post-fetch-count-tight-2 c = search needs
+fetch-weight-requires : tie.Need-fetch-weight-requires
+fetch-weight-requires c κs = search needs
 
 post-fetch-count-tight-requires : tie.Need-post-fetch-count-tight-requires
 post-fetch-count-tight-requires c κs = search needs
 
 returns : tie.Need-returns
 unfolding tightAt
-returns c = rw (← c .before .before .before .place-of .ensures, counted-tight-by) (c .post-fetch-count-tight .ensures)
+returns c = rw (← c .before .before .before .place-of .ensures, counted-tight-by, ← c .before .fetch-weight .ensures) (c .post-fetch-count-tight .ensures)
 
 pub tight-at-spec : {M : Type 1} → statement M
 tight-at-spec =
@@ -38,7 +35,6 @@ tight-at-spec =
     cast-e
     mul-post-fetch-count-tight
     element-copy-out-post-fetch-count-tight
-    mul-post-fetch-count-tight-2
-    element-copy-out-post-fetch-count-tight-2
+    fetch-weight-requires
     post-fetch-count-tight-requires
     returns)

@@ -1,0 +1,93 @@
+// The strongest report of all edges. An edge that is not idle has an end whose shadow grows, and few shadows do, so only the edges of these are
+// looked at.
+use crate::report::Report;
+use crate::report::report_at;
+use crate::report::stronger;
+use rules::finding::Length;
+ghost use mathlib.Core.Path.{_≡_};
+ghost use Prim.Native.Nat.{_<_};
+ghost use Rattle.rules.specs.Fetch.{fetched};
+ghost use Rattle.rules.specs.Registers.{growing, view};
+ghost use Rattle.places.specs.Ends.{Ends};
+ghost use Rattle.places.specs.Wired.{Wired};
+ghost use Rattle.comb_cycle.specs.Strongest as Strongest;
+
+// The speed alone is looked at: most vertices are passed by this test.
+fn grows(shadow: u64) -> bool
+    ensures { λ r. ⌜ r ≡ growing (view shadow .speed) ⌝ }
+{
+    shadow / 288_230_376_151_711_744 % 4 == 1
+}
+
+// The strongest of a report and those of the edges of one vertex.
+fn strongest_at<'a>(
+    edges: &'a [u32; 1024],
+    weights: &'a [u32; 1024],
+    before: &'a [u64; 256],
+    ne: usize,
+    registers: &'a [u64; 256],
+    shadows: &'a [u64; 256],
+    places: &'a [u32; 4096],
+    degrees: &'a [u8; 256],
+    v: usize,
+    start: Report,
+) -> Report
+    requires { ⌜ (v < 256) × Wired (now edges) ne (now places) (now degrees) ⌝ }
+    ensures { λ r. ⌜ r ≡ Strongest.stronger start (Strongest.strongestAt (now (edges .entry)) (fetched (now (edges .entry)) (now (before .entry)) (now (weights .entry)) ne) (now (registers .entry)) (now (shadows .entry)) ne v) ⌝ }
+{
+    let n = degrees[v];
+    let mut strongest = start;
+    let mut k: u8 = 0;
+    while k < n {
+        let report = report_at(
+            edges,
+            weights,
+            before,
+            ne,
+            registers,
+            shadows,
+            places[v * 16 + k as usize],
+        );
+        strongest = stronger(strongest, report);
+        k += 1;
+    }
+    strongest
+}
+
+pub(crate) fn strongest<'a>(
+    edges: &'a [u32; 1024],
+    weights: &'a [u32; 1024],
+    before: &'a [u64; 256],
+    ne: usize,
+    registers: &'a [u64; 256],
+    shadows: &'a [u64; 256],
+    places: &'a [u32; 4096],
+    degrees: &'a [u8; 256],
+    reach: usize,
+) -> Report
+    requires { ⌜ Wired (now edges) ne (now places) (now degrees) × Ends (now edges) ne reach ⌝ }
+    ensures { λ r. ⌜ r ≡ Strongest.strongest (now (edges .entry)) (fetched (now (edges .entry)) (now (before .entry)) (now (weights .entry)) ne) (now (registers .entry)) (now (shadows .entry)) ne ⌝ }
+{
+    let mut strongest = Report::Length(Length::NoLimit);
+    let mut v = 0;
+    while v < reach {
+        if !grows(shadows[v]) {
+            v += 1;
+            continue;
+        }
+        strongest = strongest_at(
+            edges,
+            weights,
+            before,
+            ne,
+            registers,
+            shadows,
+            places,
+            degrees,
+            v,
+            strongest,
+        );
+        v += 1;
+    }
+    strongest
+}

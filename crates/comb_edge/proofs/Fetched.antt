@@ -1,0 +1,31 @@
+-- One entry of the table of fetch weights: n is the number of edges in use, below which an edge's own words tell it, and from which it is 0.
+use Prim.Native.Nat.{ℕ, zero, suc, _≤_, _<_, min}
+use mathlib.Core.Path.{_≡_, refl, sym, _∙_}
+use mathlib.Core.List.{List}
+use native.Mathlib.Omega.{arith}
+use lib.ListN.{getD, replicate, length-replicate}
+use Rattle.laws.specs.Table.{paint, paintFrom, getD-painted}
+use Rattle.rules.specs.Fetch.{fetchWeight, fetched}
+use Rattle.comb_edge.specs.Edge.{weightBy}
+use Rattle.comb_edge.specs.Tables.{weight-by}
+
+-- past what is painted a blank table is blank
+unpainted : (f : ℕ → ℕ) (i n m k : ℕ) → min n m ≤ k → getD (paintFrom i n f (replicate m 0)) k 0 ≡ 0
+unfolding paintFrom
+unpainted f i zero zero k h = refl
+unpainted f i zero (suc m) zero h = refl
+unpainted f i zero (suc m) (suc k) h = unpainted f i zero m k (omega arith)
+unpainted f i (suc n) zero k h = refl
+unpainted f i (suc n) (suc m) zero h = let z : ⊥ = omega arith in absurd z
+unpainted f i (suc n) (suc m) (suc k) h = unpainted f (suc i) n m k (omega arith)
+
+module _ (es rs ws : List ℕ) (ne e : ℕ) {n : ℕ} (p : n ≡ min ne 1_024) where
+  pub fetched-in-use : {v : ℕ} → v ≡ weightBy (getD es e 0) rs (getD ws e 0) → e < n → v ≡ getD (fetched es rs ws ne) e 0
+  unfolding fetched
+  fetched-in-use q l =
+      rw (← weight-by es e rs ws) at q
+      ∙ sym (getD-painted (fetchWeight es rs ws) ne (replicate 1_024 0) e 0 (omega arith) (rw (length-replicate 1_024) (omega arith)))
+
+  pub fetched-beyond : n ≤ e → 0 ≡ getD (fetched es rs ws ne) e 0
+  unfolding fetched paint
+  fetched-beyond l = sym (unpainted (fetchWeight es rs ws) 0 ne 1_024 e (omega arith))

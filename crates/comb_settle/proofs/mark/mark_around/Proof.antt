@@ -1,0 +1,84 @@
+-- The loop holds the marks after the places passed; over all places of a vertex that propagates these are the definition's.
+-- The measure is what is left of the places.
+use Prim.Native.Nat.{_≤_, _-_}
+use mathlib.Core.Path.{_≡_}
+use Rattle.places.specs.Wired.{degree-wired}
+use Rattle.rules.specs.Fetch.{fetched}
+use Rattle.comb_settle.specs.Marked.{markAlong}
+use Rattle.comb_settle.proofs.Marking.{around}
+use borrow.Author.Needs.{needs}
+use Rattle.comb_settle.proofs.mark.mark_around.Statement.{statement}
+use Rattle.comb_settle.proofs.mark.mark_around.Tie as tie
+
+abbrev Inv-loop : tie.InvT-loop
+Inv-loop v places degrees edges weights before ne executed marks₀ n k₀ marks k = (n ≤ 16) × (k ≤ n) × (marks ≡ markAlong edges (fetched edges before weights ne) executed places v marks₀ k)
+
+abbrev μ-loop : tie.MeasureT-loop
+μ-loop v places degrees edges weights before ne executed marks₀ n k₀ marks k = n - k
+
+at-requires : tie.Need-at-requires Inv-loop μ-loop
+at-requires c κs = search (needs, around)
+
+is-propagating-requires : tie.Need-is-propagating-requires Inv-loop μ-loop
+is-propagating-requires c κs = search (needs, around)
+
+returns : tie.Need-returns Inv-loop μ-loop
+returns c = search (needs, around)
+
+element-copy-out-n : tie.Need-element-copy-out-n Inv-loop μ-loop
+element-copy-out-n c = search (needs, around)
+
+loop-holds : tie.Need-loop-holds Inv-loop μ-loop
+loop-holds c = search (needs, around, degree-wired)
+
+mul-mark-far : tie.Need-mul-mark-far Inv-loop μ-loop
+mul-mark-far c = search (needs, around)
+
+cast-mark-far : tie.Need-cast-mark-far Inv-loop μ-loop
+cast-mark-far c = search (needs, around)
+
+add-mark-far : tie.Need-add-mark-far Inv-loop μ-loop
+add-mark-far c = search (needs, around)
+
+mul-mark-far-2 : tie.Need-mul-mark-far-2 Inv-loop μ-loop
+mul-mark-far-2 c = search (needs, around)
+
+element-copy-out-mark-far : tie.Need-element-copy-out-mark-far Inv-loop μ-loop
+element-copy-out-mark-far c = search (needs, around)
+
+mark-far-requires : tie.Need-mark-far-requires Inv-loop μ-loop
+mark-far-requires c κs = search (needs, around)
+
+add-k : tie.Need-add-k Inv-loop μ-loop
+add-k c = search (needs, around)
+
+loop-less : tie.Need-loop-less Inv-loop μ-loop
+loop-less c = search (needs, around)
+
+loop-again : tie.Need-loop-again Inv-loop μ-loop
+loop-again c = search (needs, around)
+
+returns-2 : tie.Need-returns-2 Inv-loop μ-loop
+returns-2 c = search (needs, around)
+
+pub mark-around-spec : {M : Type 1} → statement M
+mark-around-spec =
+    tie.close
+    (tie.spec
+    Inv-loop
+    μ-loop
+    at-requires
+    is-propagating-requires
+    returns
+    element-copy-out-n
+    loop-holds
+    mul-mark-far
+    cast-mark-far
+    add-mark-far
+    mul-mark-far-2
+    element-copy-out-mark-far
+    mark-far-requires
+    add-k
+    loop-less
+    loop-again
+    returns-2)
