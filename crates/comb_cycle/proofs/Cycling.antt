@@ -5,7 +5,9 @@ use mathlib.Core.Bool.{Bool, true, false}
 use mathlib.Core.List.{List}
 use mathlib.Core.Option.{Option, none, some}
 use native.Mathlib.Omega.{arith}
+use lib.ListN.{replicate}
 use Rattle.laws.specs.Choice.{pick}
+use Rattle.laws.specs.Fold.{upTo}
 use Rattle.rules.specs.Fetch.{fetched}
 use Rattle.rules.specs.Units.{stalledVertices, stalledEdges}
 use Rattle.rules.specs.Execute.{executed, executeRefusal}
@@ -32,6 +34,11 @@ use Rattle.comb_cycle.specs.Lent.{graphOf}
 use Rattle.comb_cycle.specs.Responses.{findingTo, responded}
 use Rattle.comb_cycle.specs.Stages.{Ran, Beyond, Settles}
 use Rattle.comb_cycle.specs.declared.cycle.Counts.{Counts}
+
+-- without units no edge is stalled
+pub none-held : (es rs fs us : List ℕ) (ne nu : ℕ) {held : List Bool} → held ≡ stalledEdges es rs fs ne us nu → nu ≡ 0 → held ≡ replicate 1_024 false
+unfolding stalledEdges upTo
+none-held es rs fs us ne nu h z = h ∙ rw z
 
 refused-by : (o : Option Refusal) (e : Execution) (r : Refusal) → e ≡ execution o → e ≡ E.Refused r → o ≡ some r
 refused-by none e r p q = let z : _≡_ {A = ℕ} 0 1 = cc in let y : ⊥ = omega arith in absurd y

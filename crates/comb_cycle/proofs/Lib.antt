@@ -1,4 +1,5 @@
 pub mod Strengths
+pub mod Ranks
 pub mod Answers
 pub mod Covered
 pub mod Responds

@@ -1,6 +1,6 @@
 -- Each turn of a walk takes in one report more, or none where the vertex does not grow; at its end a walk has what all edges report, and the
 -- strongest report is the answer. Over variables.
-use Prim.Native.Nat.{ℕ, _+_, _*_, _≤_, _<_}
+use Prim.Native.Nat.{ℕ, _+_, _*_, _≤_, _<_, min}
 use mathlib.Core.Path.{_≡_, refl, sym, ap, _∙_}
 use mathlib.Core.Bool.{Bool, true, false, not}
 use mathlib.Core.List.{List, [], _∷_}
@@ -17,7 +17,6 @@ use Rattle.rules.specs.Registers.{at, growing, view}
 use Rattle.rules.specs.Reduce.{reduce}
 use Rattle.rules.specs.declared.index.EdgeIndex.{EdgeIndex}
 use Rattle.rules.specs.declared.instruction.CompactGrowState.the-variants.{Stay, Grow, Shrink}
-use Rattle.rules.specs.declared.finding.Length.the-variants.{NoLimit}
 use Rattle.rules.specs.declared.finding.Finding.{Finding}
 use Rattle.rules.specs.declared.finding.Response.{Response}
 use Rattle.rules.specs.declared.finding.Response.the-variants.{Reports, OddRemaining}
@@ -25,17 +24,19 @@ use Rattle.rules.proofs.finding.Response.{the-type}
 use Rattle.places.specs.Ends.{Ends}
 use Rattle.places.specs.Places.{edgeIn}
 use Rattle.places.specs.Wired.{Wired}
+use Rattle.comb_cycle.specs.Rank.{reportIn}
 use Rattle.comb_cycle.specs.Responses.{responded}
 use Rattle.comb_cycle.specs.Strongest.{stronger, strongestOf, report, strongest, strongestAt, answer, reducedWith}
 use Rattle.comb_cycle.specs.declared.report.Report.{Report}
 use Rattle.comb_cycle.specs.declared.report.Report.the-variants.{Odd, Conflict, Length}
 use Rattle.comb_cycle.proofs.report.Report as Reported
 use Rattle.comb_cycle.proofs.Strengths.{strengths}
+use Rattle.comb_cycle.proofs.Ranks.{lesser-stronger}
 use Rattle.comb_cycle.proofs.Answers.{conflict-below, answered}
 use Rattle.comb_cycle.proofs.Covered.{placeReport, places-strongest, heard, heard-strongest}
 
-pub walk-begins : (f : ℕ → Report) → Length NoLimit ≡ strongestOf f 0
-unfolding strongestOf joined upTo
+pub walk-begins : (f : ℕ → Report) → reportIn 12_884_901_888 ≡ strongestOf f 0
+unfolding strongestOf joined upTo reportIn pick
 walk-begins f = refl
 
 -- one report more
@@ -51,12 +52,13 @@ module _ (start : Report) where
   places-begin f = sym (strengths .unit start)
 
   module _ (es fs ys ss ps : List ℕ) where
-    pub place-turn : (v k : ℕ) {x a b : Report} → x ≡ report es fs ys ss (edgeIn (getD ps (v * 16 + k) 0)) → b ≡ stronger a x
-        → a ≡ stronger start (strongestOf (placeReport es fs ys ss ps v) k) → b ≡ stronger start (strongestOf (placeReport es fs ys ss ps v) (k + 1))
+    pub place-turn : (v k x a b : ℕ) → reportIn x ≡ report es fs ys ss (edgeIn (getD ps (v * 16 + k) 0)) → b ≡ min a x
+        → reportIn a ≡ stronger start (strongestOf (placeReport es fs ys ss ps v) k)
+        → reportIn b ≡ stronger start (strongestOf (placeReport es fs ys ss ps v) (k + 1))
     unfolding placeReport
-    place-turn v k {x} {a} q p h =
+    place-turn v k x a b q p h =
         let f = placeReport es fs ys ss ps v in
-        rw (p, h) (strengths .assoc start (strongestOf f k) x) ∙ ap (stronger start) (one-more f k refl q refl)
+        rw (p, lesser-stronger a x, h) (strengths .assoc start (strongestOf f k) (reportIn x)) ∙ ap (stronger start) (one-more f k refl q refl)
 
     pub places-end : (v k ne : ℕ) {ds : List ℕ} {a : Report} → a ≡ stronger start (strongestOf (placeReport es fs ys ss ps v) k) → k ≤ getD ds v 0 → getD ds v 0 ≤ k
         → Wired es ne ps ds → v < 256 → a ≡ stronger start (strongestAt es fs ys ss ne v)
@@ -88,6 +90,9 @@ module _ (es fs ys ss : List ℕ) (ne : ℕ) where
 
 -- ---- what is answered
 
+pub strongest-read : (es fs ys ss : List ℕ) (ne r : ℕ) {x : Report} → x ≡ reportIn r → reportIn r ≡ strongest es fs ys ss ne → x ≡ strongest es fs ys ss ne
+strongest-read es fs ys ss ne r p q = p ∙ q
+
 -- the strongest conflict is of an edge in the tables
 pub conflict-inside : (es fs ys ss : List ℕ) {x : Report} {e : EdgeIndex} {n : ℕ} → x ≡ strongest es fs ys ss n → x ≡ Conflict e → n ≤ 1_024 → e .0 < 1_024
 conflict-inside es fs ys ss {x} {e} {n} p q l = let below : e .0 < n = conflict-below es fs ys ss n e (sym q ∙ p) in omega arith
@@ -111,4 +116,4 @@ module _ (es fs ys ss : List ℕ) (ne : ℕ) {x : Report} {r : Response} (says :
   pub responds-found : (start : Finding) {g h : Finding} → r ≡ Reports g → h ≡ reduce start g → Reports h ≡ responded es fs ys ss ne start
   responds-found start q p = ap Reports p ∙ ap (reducedWith start) (sym q) ∙ responds-by start
 
-pub ruleset responds = (walk-begins, places-begin, place-turn, places-end, still-turn, grown-turn, vertices-end, responds-odd, responds-found)
+pub ruleset responds = (walk-begins, places-begin, place-turn, places-end, still-turn, grown-turn, vertices-end, strongest-read, responds-odd, responds-found)

@@ -7,7 +7,6 @@ use Rattle.laws.specs.Semilattice.{joined}
 use Rattle.rules.specs.Graph.{touches}
 use Rattle.rules.specs.Reduce.{least, reduce}
 use Rattle.rules.specs.Respond.{edgeResponse}
-use Rattle.rules.specs.declared.index.EdgeIndex.{EdgeIndex}
 use Rattle.rules.specs.declared.finding.Length.the-variants.{NoLimit}
 use Rattle.rules.specs.declared.finding.Finding.{Finding}
 use Rattle.rules.specs.declared.finding.Finding.the-variants.{GrowLength, Conflict}
@@ -20,14 +19,11 @@ use Rattle.comb_cycle.specs.declared.report.Report.the-variants.{Odd, Co
 abbrev pub silent : Report
 silent = LengthOf NoLimit
 
-abbrev pub firstConflict : EdgeIndex → EdgeIndex → Report
-firstConflict e f = ConflictAt (record { 0 = min (e .0) (f .0) })
-
 -- "16 is still given when a Conflict exists"; "the first Conflict by edge index, else the least length"
 abbrev pub stronger : Report → Report → Report
 stronger Odd b = Odd
 stronger (ConflictAt e) Odd = Odd
-stronger (ConflictAt e) (ConflictAt f) = firstConflict e f
+stronger (ConflictAt e) (ConflictAt f) = ConflictAt (record { 0 = min (e .0) (f .0) })
 stronger (ConflictAt e) (LengthOf m) = ConflictAt e
 stronger (LengthOf l) Odd = Odd
 stronger (LengthOf l) (ConflictAt f) = ConflictAt f

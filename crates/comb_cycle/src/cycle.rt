@@ -1,6 +1,7 @@
 // One instruction's cycle on lent tables: stages 1 to 8.
 use crate::stages;
 use comb_vertex::execute::Execution;
+use comb_vertex::no_vertices;
 use rules::finding::Answer;
 use rules::finding::Response;
 use rules::instruction::Instruction;
@@ -42,7 +43,7 @@ pub fn run_cycle<'a>(
     requires { ⌜ Ready counts (now edges) (now places) (now degrees) ⌝ }
     ensures { λ r. ⌜ cycledAs (now (registers .exit)) (now (stalled .exit)) r ≡ cycled (graphOf counts (now (vertices .entry)) (now (edges .entry)) (now (units .entry))) (now (registers .entry)) (now (weights .entry)) (now (stalled .entry)) instruction ⌝ }
 {
-    let mut still = stages::no_vertices();
+    let mut still = no_vertices();
     let mut held = no_flags();
     stages::stall_units(
         units,
@@ -89,7 +90,7 @@ pub fn run_cycle<'a>(
                     Answer::Refused(Refusal::OddRemaining)
                 }
                 Response::Reports(finding) => {
-                    *stalled = held;
+                    stages::keep_flags(counts.nu, &held, stalled);
                     Answer::Found(finding)
                 }
             }

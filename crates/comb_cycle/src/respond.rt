@@ -1,4 +1,5 @@
 // Stages 7 and 8: 16 where an edge is odd, else the finding.
+use crate::rank::report_in;
 use crate::report::Report;
 use crate::report::response;
 use crate::strongest::strongest;
@@ -57,7 +58,7 @@ pub(crate) fn respond<'a>(
     requires { ⌜ Wired (now edges) ne (now places) (now degrees) × Ends (now edges) ne reach ⌝ }
     ensures { λ r. ⌜ r ≡ responded (now (edges .entry)) (fetched (now (edges .entry)) (now (before .entry)) (now (weights .entry)) ne) (now (registers .entry)) (now (shadows .entry)) ne start ⌝ }
 {
-    let report = strongest(
+    let report = report_in(strongest(
         edges,
         weights,
         before,
@@ -67,7 +68,7 @@ pub(crate) fn respond<'a>(
         places,
         degrees,
         reach,
-    );
+    ));
     let Response::Reports(found) = answer(edges, weights, before, ne, registers, shadows, report)
     else {
         return Response::OddRemaining;

@@ -1,4 +1,5 @@
 // The stages of one cycle, each a table made from the ones before it.
+use crate::cycle::no_flags;
 use crate::respond::respond;
 use comb_offloading::offload;
 use comb_vertex::execute::Execution;
@@ -14,12 +15,6 @@ ghost use Rattle.rules.specs.Units.{stalledVertices, stalledEdges};
 ghost use Rattle.places.specs.Ends.{Ends};
 ghost use Rattle.places.specs.Wired.{Wired};
 ghost use Rattle.comb_cycle.specs.Stages.{Beyond, Ran, Settles};
-
-pub(crate) fn no_vertices() -> [bool; 256]
-    ensures { λ r. ⌜ r ≡ replicate 256 false ⌝ }
-{
-    [false; 256]
-}
 
 // Stage 2, into blank tables.
 pub(crate) fn stall_units<'a>(
@@ -50,6 +45,18 @@ pub(crate) fn stall_units<'a>(
         vertices,
         stalled,
     )
+}
+
+// The flags that stage 2 raised, into the lent table. Without units there are none, and a table is cleared faster than copied.
+pub(crate) fn keep_flags(nu: usize, held: &[bool; 1024], stalled: &mut [bool; 1024])
+    requires { ⌜ (nu ≡ 0 → now held ≡ replicate 1_024 false) ⌝ }
+    ensures { λ r. ⌜ now (stalled .exit) ≡ now (held .entry) ⌝ }
+{
+    if nu == 0 {
+        *stalled = no_flags();
+    } else {
+        *stalled = *held;
+    }
 }
 
 // Stage 3, into a table that holds the registers before it. "FindObstacle: none"

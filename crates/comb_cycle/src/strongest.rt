@@ -1,15 +1,14 @@
-// The strongest report of all edges. An edge that is not idle has an end whose shadow grows, and few shadows do, so only the edges of these are
-// looked at.
-use crate::report::Report;
-use crate::report::report_at;
-use crate::report::stronger;
-use rules::finding::Length;
+// The strongest report of all edges, by its rank. An edge that is not idle has an end whose shadow grows, and few shadows do, so only the edges
+// of these are looked at.
+use crate::rank::lesser;
+use crate::rank::rank_at;
 ghost use mathlib.Core.Path.{_≡_};
 ghost use Prim.Native.Nat.{_<_};
 ghost use Rattle.rules.specs.Fetch.{fetched};
 ghost use Rattle.rules.specs.Registers.{growing, view};
 ghost use Rattle.places.specs.Ends.{Ends};
 ghost use Rattle.places.specs.Wired.{Wired};
+ghost use Rattle.comb_cycle.specs.Rank.{reportIn};
 ghost use Rattle.comb_cycle.specs.Strongest as Strongest;
 
 // The speed alone is looked at: most vertices are passed by this test.
@@ -19,7 +18,7 @@ fn grows(shadow: u64) -> bool
     shadow / 288_230_376_151_711_744 % 4 == 1
 }
 
-// The strongest of a report and those of the edges of one vertex.
+// The rank of the strongest of a report and those of the edges of one vertex.
 fn strongest_at<'a>(
     edges: &'a [u32; 1024],
     weights: &'a [u32; 1024],
@@ -30,16 +29,16 @@ fn strongest_at<'a>(
     places: &'a [u32; 4096],
     degrees: &'a [u8; 256],
     v: usize,
-    start: Report,
-) -> Report
+    start: u64,
+) -> u64
     requires { ⌜ (v < 256) × Wired (now edges) ne (now places) (now degrees) ⌝ }
-    ensures { λ r. ⌜ r ≡ Strongest.stronger start (Strongest.strongestAt (now (edges .entry)) (fetched (now (edges .entry)) (now (before .entry)) (now (weights .entry)) ne) (now (registers .entry)) (now (shadows .entry)) ne v) ⌝ }
+    ensures { λ r. ⌜ reportIn r ≡ Strongest.stronger (reportIn start) (Strongest.strongestAt (now (edges .entry)) (fetched (now (edges .entry)) (now (before .entry)) (now (weights .entry)) ne) (now (registers .entry)) (now (shadows .entry)) ne v) ⌝ }
 {
     let n = degrees[v];
     let mut strongest = start;
     let mut k: u8 = 0;
     while k < n {
-        let report = report_at(
+        let rank = rank_at(
             edges,
             weights,
             before,
@@ -48,7 +47,7 @@ fn strongest_at<'a>(
             shadows,
             places[v * 16 + k as usize],
         );
-        strongest = stronger(strongest, report);
+        strongest = lesser(strongest, rank);
         k += 1;
     }
     strongest
@@ -64,11 +63,12 @@ pub(crate) fn strongest<'a>(
     places: &'a [u32; 4096],
     degrees: &'a [u8; 256],
     reach: usize,
-) -> Report
+) -> u64
     requires { ⌜ Wired (now edges) ne (now places) (now degrees) × Ends (now edges) ne reach ⌝ }
-    ensures { λ r. ⌜ r ≡ Strongest.strongest (now (edges .entry)) (fetched (now (edges .entry)) (now (before .entry)) (now (weights .entry)) ne) (now (registers .entry)) (now (shadows .entry)) ne ⌝ }
+    ensures { λ r. ⌜ reportIn r ≡ Strongest.strongest (now (edges .entry)) (fetched (now (edges .entry)) (now (before .entry)) (now (weights .entry)) ne) (now (registers .entry)) (now (shadows .entry)) ne ⌝ }
 {
-    let mut strongest = Report::Length(Length::NoLimit);
+    // No limit.
+    let mut strongest = 12_884_901_888;
     let mut v = 0;
     while v < reach {
         if !grows(shadows[v]) {

@@ -25,7 +25,7 @@ use Rattle.comb_settle.specs.Marked.{Marks}
 use Rattle.comb_settle.specs.Settled.{kept, updatedWord, seenBy, shadowWord}
 
 -- a fresh word shows the fresh registers
-fresh-seen : (b : Bool) → view (keep (fresh b)) ≡ fresh b
+pub fresh-seen : (b : Bool) → view (keep (fresh b)) ≡ fresh b
 unfolding fresh
 fresh-seen true = round (fresh true) (record { grown = omega arith; node = omega arith; root = omega arith })
 fresh-seen false = round (fresh false) (record { grown = omega arith; node = omega arith; root = omega arith })
@@ -86,6 +86,9 @@ keeps-kept w h =
     let b = ltb (w / 288_230_376_151_711_744 % 4) 3 in
     keeps w (ltb-true _ _ (first-holds a b h)) (ltb-true _ _ (second-holds a b h))
 
+pub free-word : (w : ℕ) (unmarked : Bool) {b : Bool} → b ≡ (eqb w (keep (fresh false)) and unmarked) → b ≡ true → w ≡ keep (fresh false)
+free-word w unmarked free t = eqb-true w (keep (fresh false)) (and-left _ unmarked (sym free ∙ t))
+
 module _ (es fs xs ps ds : List ℕ) (v : ℕ) where
   fresh-at : (w : ℕ) (b : Bool) → w ≡ getD xs v 0 → eqb w (keep (fresh b)) ≡ true → at xs v ≡ fresh b
   unfolding at
@@ -110,7 +113,7 @@ module _ (es fs xs ps ds : List ℕ) (v : ℕ) where
     is-fresh = fresh-at w false i (and-left _ _ (sym free ∙ t))
 
     is-word : w ≡ keep (fresh false)
-    is-word = eqb-true w (keep (fresh false)) (and-left _ _ (sym free ∙ t))
+    is-word = free-word w _ free t
 
     unled : peerAt es fs xs ps ds v ≡ Nobody
     unled = m .unled v u (not-true _ (and-right _ _ (sym free ∙ t)))

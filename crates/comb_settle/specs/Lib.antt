@@ -1,4 +1,5 @@
 pub mod Settled
+pub mod Carried
 pub mod Wiring
 pub mod Marked
 pub mod Far

@@ -4,7 +4,6 @@ mod mark;
 use crate::mark::mark_led;
 use comb_vertex::execute::waits;
 use comb_vertex::peer::propagating_peer;
-use interface::least;
 use rules::finding::Finding;
 use rules::finding::Length;
 use rules::graph::at_most;
@@ -25,6 +24,7 @@ ghost use Rattle.rules.specs.declared.finding.Finding.the-variants.{GrowLength}
 ghost use Rattle.places.specs.Ends.{Ends};
 ghost use Rattle.places.specs.Wired.{Wired};
 ghost use Rattle.comb_vertex.specs.Led.{peerAt};
+ghost use Rattle.comb_settle.specs.Carried.{lengthIn};
 ghost use Rattle.comb_settle.specs.Marked.{Marks};
 ghost use Rattle.comb_settle.specs.Settled.{kept, updatedWord, seenBy, shadowWord};
 
@@ -121,12 +121,6 @@ fn settle_at<'p>(
     ensures { λ r. ⌜ r .shadow ≡ shadowWord (now (vertices .entry)) (now (edges .entry)) (fetched (now (edges .entry)) (now (before .entry)) (now (weights .entry)) ne) (now (executed .entry)) (now (places .entry)) (now (degrees .entry)) (now (stalled .entry)) v ⌝ }
 {
     let word = executed[v as usize];
-    if is_free(word, marks[v as usize]) {
-        return Settled {
-            updated: word,
-            shadow: word,
-        };
-    }
     if is_fresh(word, true) {
         return Settled {
             updated: word,
@@ -165,14 +159,24 @@ fn settle_at<'p>(
     }
 }
 
+// Grown amounts are less than 67,108,864; from there up a length is no limit.
+fn length_in(length: u32) -> Length
+    ensures { λ r. ⌜ r ≡ lengthIn length ⌝ }
+{
+    if length < 67_108_864 {
+        return Length::Ahead(length);
+    }
+    Length::NoLimit
+}
+
 // "A vertex at Shrink after stage 5 reports its new grown amount"; no other bounds the length.
-fn shortest(length: Length, word: u64) -> Length
-    ensures { λ r. ⌜ GrowLength r ≡ Reduce.reduce (GrowLength length) (vertexReport (Registers.view word)) ⌝ }
+fn shortest(length: u32, word: u64) -> u32
+    ensures { λ r. ⌜ GrowLength (lengthIn r) ≡ Reduce.reduce (GrowLength (lengthIn length)) (vertexReport (Registers.view word)) ⌝ }
 {
     let registers = view(word);
     let speed = registers.speed;
-    if speed.is_shrinking() {
-        return least(length, Length::Ahead(registers.grown));
+    if speed.is_shrinking() & (registers.grown < length) {
+        return registers.grown;
     }
     length
 }
@@ -200,9 +204,16 @@ pub fn settle<'p>(
 {
     let n = at_most(nv, 256);
     let marks = mark_led(places, degrees, edges, weights, before, ne, executed, reach);
-    let mut length = Length::NoLimit;
+    let mut length: u32 = 67_108_864;
     let mut v: usize = 0;
     while v < n {
+        let word = executed[v];
+        if is_free(word, marks[v]) {
+            updated[v] = word;
+            shadows[v] = word;
+            v += 1;
+            continue;
+        }
         let settled = settle_at(
             vertices,
             places,
@@ -221,5 +232,5 @@ pub fn settle<'p>(
         length = shortest(length, updated[v]);
         v += 1;
     }
-    Finding::GrowLength(length)
+    Finding::GrowLength(length_in(length))
 }

@@ -5,16 +5,25 @@ pub mod tight;
 
 use rules::registers::VertexRegisters;
 use rules::registers::view;
+ghost use mathlib.Core.Bool.{false};
 ghost use mathlib.Core.Path.{_≡_};
 ghost use Prim.Native.Nat.{_≤_, _<_};
+ghost use lib.ListN.{replicate};
 ghost use Rattle.rules.specs.Registers as Registers;
 ghost use Rattle.comb_vertex.specs.Walked.{placeOf, degreeOf};
 
 // The registers of one vertex in a table.
-pub fn at(registers: &[u64; 256], v: u8) -> VertexRegisters
+fn at(registers: &[u64; 256], v: u8) -> VertexRegisters
     ensures { λ r. ⌜ r ≡ Registers.at (now (registers .entry)) v ⌝ }
 {
     view(registers[v as usize])
+}
+
+// No vertex is flagged.
+pub fn no_vertices() -> [bool; 256]
+    ensures { λ r. ⌜ r ≡ replicate 256 false ⌝ }
+{
+    [false; 256]
 }
 
 // How many places of a vertex are in use.

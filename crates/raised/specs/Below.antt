@@ -1,13 +1,15 @@
 -- The raised flags below e: what a walk over the flags has met when it stands at e, and when it has met them all.
 use Prim.Native.Nat.{ℕ, zero, suc, _+_, _-_, _≤_, _<_}
 use mathlib.Core.Path.{_≡_, refl, sym, ap, ap₂, _∙_}
-use mathlib.Core.Bool.{Bool, true, false}
+use mathlib.Core.Bool.{Bool, true, false, not, _||_}
 use mathlib.Core.List.{List, [], _∷_, _++_}
 use native.Mathlib.Nat.{add-zero, zero-add, add-suc, suc-add}
 use native.Mathlib.Numerals.{add-one}
 use native.Mathlib.Omega.{arith}
+use lib.Dec.{ltb}
 use lib.ListN.{length, take, getD, length-append}
 use lib.Seq.{take-all}
+use borrow.Author.Tests.{ltb-false, lt-ltb, not-true}
 use Rattle.laws.specs.Fold.{bit}
 use Rattle.rules.specs.Pairs.{raisedFrom}
 
@@ -62,6 +64,15 @@ unfolding pairAt
 length-pair e true = refl
 length-pair e false = refl
 
+-- a sum with a flag's bit is some where one of the two is
+some-with : (n : ℕ) (b : Bool) → (ltb 0 n || b) ≡ ltb 0 (n + bit b)
+some-with zero true = refl
+some-with zero false = refl
+some-with (suc n) b = rw (lt-ltb 0 (suc n) (omega arith), lt-ltb 0 (suc n + bit b) (omega arith))
+
+not-some : (n : ℕ) → not (ltb 0 n) ≡ true → 0 ≡ n
+not-some n h = omega (arith, ltb-false 0 n (not-true _ h))
+
 -- ---- from the start
 
 module _ (flags : List Bool) where
@@ -89,6 +100,20 @@ module _ (flags : List Bool) where
   unfolding pairsBelow
   count-end e n p g = p ∙ rw (take-all e flags g)
 
+  -- whether any
+  pub any-none : false ≡ ltb 0 (length (pairsBelow flags 0))
+  any-none = rw below-none
+
+  pub any-next : (e : ℕ) (r b : Bool) → r ≡ ltb 0 (length (pairsBelow flags e)) → b ≡ getD flags e false → (r || b) ≡ ltb 0 (length (pairsBelow flags (e + 1)))
+  any-next e r b p q =
+      rw (p, q) (some-with (length (pairsBelow flags e)) (getD flags e false) ∙ ap (ltb 0) (count-next e _ _ refl refl))
+
+  pub any-end : (e : ℕ) (r : Bool) → r ≡ ltb 0 (length (pairsBelow flags e)) → length flags ≤ e → r ≡ ltb 0 (length (raisedFrom 0 flags))
+  any-end e r p g = p ∙ ap (ltb 0) (count-end e _ refl g)
+
+  pub none-raised : {r : Bool} → r ≡ ltb 0 (length (raisedFrom 0 flags)) → not r ≡ true → 0 ≡ length (raisedFrom 0 flags)
+  none-raised p h = not-some (length (raisedFrom 0 flags)) (rw p at h)
+
   -- while fewer than all are met, there is a flag at e
   module _ {met n : ℕ} (fewer-met : met < n) (counted : n ≡ length (raisedFrom 0 flags)) (e : ℕ) (are-met : met ≡ length (pairsBelow flags e)) where
     pub more-left : e < length flags
@@ -111,6 +136,9 @@ module _ (flags : List Bool) where
 
 -- for `search (needs, counting)` at every need of a loop that counts
 pub ruleset counting = (count-none, count-next, count-end)
+
+-- for `search (needs, looking)` at every need of a loop that looks for one
+pub ruleset looking = (any-none, any-next, any-end)
 
 -- for `search (needs, stopping)` where a loop stops when all are met
 pub ruleset stopping = (more-left, more-next, more-below, more-less)

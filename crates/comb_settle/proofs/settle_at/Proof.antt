@@ -1,8 +1,8 @@
--- A fresh vertex that nobody leads, a fresh virtual one and a firm one stay. Any other has what its peer gives, and its shadow is made of that.
+-- A fresh virtual vertex and a firm one stay. Any other has what its peer gives, and its shadow is made of that.
 use mathlib.Core.Path.{refl}
 use mathlib.Core.Bool.{Bool, false}
 use lib.ListN.{getD}
-use Rattle.comb_settle.proofs.Settling.{free-updates, free-shows, virtual-updates, virtual-shows, firm-updates, firm-shows, updates, shows}
+use Rattle.comb_settle.proofs.Settling.{virtual-updates, virtual-shows, firm-updates, firm-shows, updates, shows}
 use borrow.Author.Needs.{needs}
 use Rattle.comb_settle.proofs.settle_at.Statement.{statement}
 use Rattle.comb_settle.proofs.settle_at.Tie as tie
@@ -13,15 +13,6 @@ mul-word c = search needs
 element-copy-out-word : tie.Need-element-copy-out-word
 element-copy-out-word c = search needs
 
-element-copy-out-is-free : tie.Need-element-copy-out-is-free
-element-copy-out-is-free c = search needs
-
-is-free-requires : tie.Need-is-free-requires
-is-free-requires c κs = search needs
-
-returns : tie.Need-returns
-returns c = (search (needs, free-updates), search (needs, free-shows))
-
 is-fresh-requires : tie.Need-is-fresh-requires
 is-fresh-requires c κs = search needs
 
@@ -31,8 +22,8 @@ fresh-requires c κs = search needs
 seen-requires : tie.Need-seen-requires
 seen-requires c κs = search needs
 
-returns-2 : tie.Need-returns-2
-returns-2 c = (search (needs, virtual-updates), search (needs, virtual-shows))
+returns : tie.Need-returns
+returns c = (search (needs, virtual-updates), search (needs, virtual-shows))
 
 element-copy-out-is-firm : tie.Need-element-copy-out-is-firm
 element-copy-out-is-firm c = search needs
@@ -40,12 +31,12 @@ element-copy-out-is-firm c = search needs
 is-firm-requires : tie.Need-is-firm-requires
 is-firm-requires c κs = search needs
 
-returns-3 : tie.Need-returns-3
-returns-3 c =
-    let given = c .before .before .before .before .before .before .before .before .before .args in
+returns-2 : tie.Need-returns-2
+returns-2 c =
+    let given = c .before .before .before .before .before .before .args in
     let stalled : Bool = getD (given .stalled .now) (given .v) false in
     let ready = c .before .is-firm .ensures in
-    (firm-updates _ _ _ _ _ _ _ refl stalled _ ready (c .if3 .taken), firm-shows _ _ _ _ _ _ _ refl stalled _ ready (c .if3 .taken) _ _ refl)
+    (firm-updates _ _ _ _ _ _ _ refl stalled _ ready (c .if2 .taken), firm-shows _ _ _ _ _ _ _ refl stalled _ ready (c .if2 .taken) _ _ refl)
 
 view-requires : tie.Need-view-requires
 view-requires c κs = search needs
@@ -62,8 +53,8 @@ seen-requires-2 c κs = search needs
 keep-requires : tie.Need-keep-requires
 keep-requires c κs = search needs
 
-returns-4 : tie.Need-returns-4
-returns-4 c = (search (needs, updates), search (needs, shows))
+returns-3 : tie.Need-returns-3
+returns-3 c = (search (needs, updates), search (needs, shows))
 
 pub settle-at-spec : {M : Type 1} → statement M
 settle-at-spec =
@@ -71,19 +62,16 @@ settle-at-spec =
     (tie.spec
     mul-word
     element-copy-out-word
-    element-copy-out-is-free
-    is-free-requires
-    returns
     is-fresh-requires
     fresh-requires
     seen-requires
-    returns-2
+    returns
     element-copy-out-is-firm
     is-firm-requires
-    returns-3
+    returns-2
     view-requires
     peer-of-requires
     update-requires
     seen-requires-2
     keep-requires
-    returns-4)
+    returns-3)

@@ -1,6 +1,5 @@
--- A vertex that does not shrink reports no limit.
-use mathlib.Core.Path.{sym}
-use Rattle.comb_settle.proofs.Reporting.{none-reported, one-reported}
+-- A vertex that does not shrink reports no limit, and one that does bounds the length by what it has grown.
+use Rattle.comb_settle.proofs.Reporting.{shorter, no-shorter}
 use borrow.Author.Needs.{needs}
 use Rattle.comb_settle.proofs.shortest.Statement.{statement}
 use Rattle.comb_settle.proofs.shortest.Tie as tie
@@ -11,15 +10,11 @@ view-requires c κs = search needs
 is-shrinking-requires : tie.Need-is-shrinking-requires
 is-shrinking-requires c κs = search needs
 
-least-requires : tie.Need-least-requires
-least-requires c κs = search needs
-
 returns : tie.Need-returns
-returns c = rw (← c .before .before .before .view .ensures) (one-reported (c .before .before .before .before .args .length) _ _ (c .least .ensures) _ (c .before .before .is-shrinking .ensures) (c .before .if1 .taken))
+returns c = search (needs, shorter)
 
 returns-2 : tie.Need-returns-2
-returns-2 c = rw (← c .before .before .view .ensures) (sym (none-reported _ _ _ (c .before .is-shrinking .ensures) (c .if1 .left)))
+returns-2 c = search (needs, no-shorter)
 
 pub shortest-spec : {M : Type 1} → statement M
-shortest-spec =
-    tie.close (tie.spec view-requires is-shrinking-requires least-requires returns returns-2)
+shortest-spec = tie.close (tie.spec view-requires is-shrinking-requires returns returns-2)

@@ -1,9 +1,9 @@
--- Turn by turn the raised flags below e are counted.
+-- Where none is raised there are 0; else the raised flags below e are counted turn by turn.
 use Prim.Native.Nat.{_≤_, _-_}
 use mathlib.Core.Path.{_≡_}
-use borrow.Author.Needs.{needs}
 use lib.ListN.{length}
-use Rattle.raised.specs.Below.{pairsBelow, counting}
+use Rattle.raised.specs.Below.{pairsBelow, counting, none-raised}
+use borrow.Author.Needs.{needs}
 use Rattle.raised.proofs.count.Statement.{statement}
 use Rattle.raised.proofs.count.Tie as tie
 
@@ -12,6 +12,12 @@ Inv-loop stalled n₀ e₀ n e = (e ≤ length stalled) × (n ≤ e) × (n ≡ l
 
 abbrev μ-loop : tie.MeasureT-loop
 μ-loop stalled n₀ e₀ n e = length stalled - e
+
+is-any-raised-requires : tie.Need-is-any-raised-requires Inv-loop μ-loop
+is-any-raised-requires c κs = search (needs, counting)
+
+returns : tie.Need-returns Inv-loop μ-loop
+returns c = search (needs, none-raised)
 
 loop-holds : tie.Need-loop-holds Inv-loop μ-loop
 loop-holds c = search (needs, counting)
@@ -34,8 +40,8 @@ loop-less c = search (needs, counting)
 loop-again : tie.Need-loop-again Inv-loop μ-loop
 loop-again c = search (needs, counting)
 
-returns : tie.Need-returns Inv-loop μ-loop
-returns c = search (needs, counting)
+returns-2 : tie.Need-returns-2 Inv-loop μ-loop
+returns-2 c = search (needs, counting)
 
 pub count-spec : {M : Type 1} → statement M
 count-spec =
@@ -43,6 +49,8 @@ count-spec =
     (tie.spec
     Inv-loop
     μ-loop
+    is-any-raised-requires
+    returns
     loop-holds
     shared-slice-read-bit
     bit-requires
@@ -50,4 +58,4 @@ count-spec =
     add-e
     loop-less
     loop-again
-    returns)
+    returns-2)

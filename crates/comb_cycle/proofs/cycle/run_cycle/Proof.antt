@@ -1,6 +1,6 @@
 -- Each stage's table is document 01's, and so is the end that they lead to.
-use mathlib.Core.Path.{refl}
-use Rattle.comb_cycle.proofs.Cycling.{beyond-made, cycle-refused, cycle-odd, cycle-found}
+use mathlib.Core.Path.{refl, _∙_}
+use Rattle.comb_cycle.proofs.Cycling.{beyond-made, cycle-refused, cycle-odd, cycle-found, none-held}
 use borrow.Author.Needs.{needs}
 use Rattle.comb_cycle.proofs.cycle.run_cycle.Statement.{statement}
 use Rattle.comb_cycle.proofs.cycle.run_cycle.Tie as tie
@@ -38,8 +38,11 @@ returns c = cycle-refused (c .before .before .before .before .before .before .be
 returns-2 : tie.Need-returns-2
 returns-2 c = cycle-odd (c .before .before .before .before .before .before .before .before .before .before .before .before .before .before .before .before .before .before .before .before .args .counts) _ _ _ _ _ _ _ _ _ _ _ refl (c .before .before .before .before .before .before .before .before .before .before .before .before .before .before .stall-units .ensures .0) (c .before .before .before .before .before .before .before .before .before .execute-all .ensures) _ _ _ (search needs) (c .before .before .before .before .before .before .before .before .before .before .before .before .before .before .stall-units .ensures .1) (c .before .before .settle .ensures) (search needs)
 
+keep-flags-requires : tie.Need-keep-flags-requires
+keep-flags-requires c κs = none-held _ _ _ _ _ _ (c .before .before .before .before .before .before .before .before .before .before .before .before .before .before .before .before .before .stall-units .ensures .1)
+
 returns-3 : tie.Need-returns-3
-returns-3 c = cycle-found (c .before .before .before .before .before .before .before .before .before .before .before .before .before .before .before .before .before .before .before .before .before .args .counts) _ _ _ _ _ _ _ _ _ _ _ refl (c .before .before .before .before .before .before .before .before .before .before .before .before .before .before .before .stall-units .ensures .0) (c .before .before .before .before .before .before .before .before .before .before .execute-all .ensures) _ _ _ (search needs) (c .before .before .before .before .before .before .before .before .before .before .before .before .before .before .before .stall-units .ensures .1) (c .before .before .before .settle .ensures) _ (c .before .response .given .1)
+returns-3 c = cycle-found (c .before .before .before .before .before .before .before .before .before .before .before .before .before .before .before .before .before .before .before .before .before .before .before .before .args .counts) _ _ _ _ _ _ _ _ _ _ _ refl (c .before .before .before .before .before .before .before .before .before .before .before .before .before .before .before .before .before .before .stall-units .ensures .0) (c .before .before .before .before .before .before .before .before .before .before .before .before .before .execute-all .ensures) _ _ _ (search needs) (c .keep-flags .ensures ∙ c .before .before .before .before .before .before .before .before .before .before .before .before .before .before .before .before .before .before .stall-units .ensures .1) (c .before .before .before .before .before .before .settle .ensures) _ (c .before .before .before .before .response .given .1)
 
 pub run-cycle-spec : {M : Type 1} → statement M
 run-cycle-spec =
@@ -54,6 +57,7 @@ run-cycle-spec =
     settle-requires
     enum-told-2
     enum-known-response
+    keep-flags-requires
     returns
     returns-2
     returns-3)

@@ -8,8 +8,11 @@ use Rattle.comb_cycle.proofs.respond.respond.Tie as tie
 strongest-requires : tie.Need-strongest-requires
 strongest-requires c κs = search needs
 
+report-in-requires : tie.Need-report-in-requires
+report-in-requires c κs = search needs
+
 answer-requires : tie.Need-answer-requires
-answer-requires c κs = search (needs, edges-fit)
+answer-requires c κs = search (needs, responds, edges-fit)
 
 enum-known-found : tie.Need-enum-known-found
 enum-known-found c = search needs
@@ -31,6 +34,7 @@ respond-spec =
     tie.close
     (tie.spec
     strongest-requires
+    report-in-requires
     answer-requires
     enum-known-found
     enum-told

@@ -3,6 +3,7 @@
 use Prim.Native.Nat.{_≤_, _-_}
 use mathlib.Core.Path.{_≡_}
 use Rattle.rules.specs.Fetch.{fetched}
+use Rattle.comb_cycle.specs.Rank.{reportIn}
 use Rattle.comb_cycle.specs.Strongest.{strongestOf}
 use Rattle.comb_cycle.proofs.Covered.{heard}
 use Rattle.comb_cycle.proofs.Responds.{responds, grown-turn}
@@ -11,7 +12,7 @@ use Rattle.comb_cycle.proofs.strongest.strongest.Statement.{statement}
 use Rattle.comb_cycle.proofs.strongest.strongest.Tie as tie
 
 abbrev Inv-loop : tie.InvT-loop
-Inv-loop edges weights before ne registers shadows places degrees reach strongest₀ v₀ strongest v = (reach ≤ 256) × (v ≤ reach) × (strongest ≡ strongestOf (heard edges (fetched edges before weights ne) registers shadows ne) v)
+Inv-loop edges weights before ne registers shadows places degrees reach strongest₀ v₀ strongest v = (reach ≤ 256) × (v ≤ reach) × (reportIn strongest ≡ strongestOf (heard edges (fetched edges before weights ne) registers shadows ne) v)
 
 abbrev μ-loop : tie.MeasureT-loop
 μ-loop edges weights before ne registers shadows places degrees reach strongest₀ v₀ strongest v = reach - v

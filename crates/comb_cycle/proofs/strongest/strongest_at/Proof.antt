@@ -4,6 +4,7 @@ use Prim.Native.Nat.{_≤_, _-_}
 use mathlib.Core.Path.{_≡_}
 use Rattle.places.specs.Wired.{degree-wired}
 use Rattle.rules.specs.Fetch.{fetched}
+use Rattle.comb_cycle.specs.Rank.{reportIn}
 use Rattle.comb_cycle.specs.Strongest.{stronger, strongestOf}
 use Rattle.comb_cycle.proofs.Covered.{placeReport}
 use Rattle.comb_cycle.proofs.Responds.{responds}
@@ -12,10 +13,10 @@ use Rattle.comb_cycle.proofs.strongest.strongest_at.Statement.{statemen
 use Rattle.comb_cycle.proofs.strongest.strongest_at.Tie as tie
 
 abbrev Inv-loop : tie.InvT-loop
-Inv-loop edges weights before ne registers shadows places degrees v n strongest₀ k₀ strongest k = (n ≤ 16) × (k ≤ n) × (strongest ≡ stronger strongest₀ (strongestOf (placeReport edges (fetched edges before weights ne) registers shadows places v) k))
+Inv-loop edges weights before ne registers shadows places degrees v start n strongest₀ k₀ strongest k = (n ≤ 16) × (k ≤ n) × (reportIn strongest ≡ stronger (reportIn start) (strongestOf (placeReport edges (fetched edges before weights ne) registers shadows places v) k))
 
 abbrev μ-loop : tie.MeasureT-loop
-μ-loop edges weights before ne registers shadows places degrees v n strongest₀ k₀ strongest k = n - k
+μ-loop edges weights before ne registers shadows places degrees v start n strongest₀ k₀ strongest k = n - k
 
 element-copy-out-n : tie.Need-element-copy-out-n Inv-loop μ-loop
 element-copy-out-n c = search (needs, responds)
@@ -23,26 +24,26 @@ element-copy-out-n c = search (needs, responds)
 loop-holds : tie.Need-loop-holds Inv-loop μ-loop
 loop-holds c = search (needs, responds, degree-wired)
 
-mul-report-at : tie.Need-mul-report-at Inv-loop μ-loop
-mul-report-at c = search (needs, responds)
+mul-rank-at : tie.Need-mul-rank-at Inv-loop μ-loop
+mul-rank-at c = search (needs, responds)
 
-cast-report-at : tie.Need-cast-report-at Inv-loop μ-loop
-cast-report-at c = search (needs, responds)
+cast-rank-at : tie.Need-cast-rank-at Inv-loop μ-loop
+cast-rank-at c = search (needs, responds)
 
-add-report-at : tie.Need-add-report-at Inv-loop μ-loop
-add-report-at c = search (needs, responds)
+add-rank-at : tie.Need-add-rank-at Inv-loop μ-loop
+add-rank-at c = search (needs, responds)
 
-mul-report-at-2 : tie.Need-mul-report-at-2 Inv-loop μ-loop
-mul-report-at-2 c = search (needs, responds)
+mul-rank-at-2 : tie.Need-mul-rank-at-2 Inv-loop μ-loop
+mul-rank-at-2 c = search (needs, responds)
 
-element-copy-out-report-at : tie.Need-element-copy-out-report-at Inv-loop μ-loop
-element-copy-out-report-at c = search (needs, responds)
+element-copy-out-rank-at : tie.Need-element-copy-out-rank-at Inv-loop μ-loop
+element-copy-out-rank-at c = search (needs, responds)
 
-report-at-requires : tie.Need-report-at-requires Inv-loop μ-loop
-report-at-requires c κs = search (needs, responds)
+rank-at-requires : tie.Need-rank-at-requires Inv-loop μ-loop
+rank-at-requires c κs = search (needs, responds)
 
-stronger-requires : tie.Need-stronger-requires Inv-loop μ-loop
-stronger-requires c κs = search (needs, responds)
+lesser-requires : tie.Need-lesser-requires Inv-loop μ-loop
+lesser-requires c κs = search (needs, responds)
 
 add-k : tie.Need-add-k Inv-loop μ-loop
 add-k c = search (needs, responds)
@@ -64,13 +65,13 @@ strongest-at-spec =
     μ-loop
     element-copy-out-n
     loop-holds
-    mul-report-at
-    cast-report-at
-    add-report-at
-    mul-report-at-2
-    element-copy-out-report-at
-    report-at-requires
-    stronger-requires
+    mul-rank-at
+    cast-rank-at
+    add-rank-at
+    mul-rank-at-2
+    element-copy-out-rank-at
+    rank-at-requires
+    lesser-requires
     add-k
     loop-less
     loop-again

@@ -11,13 +11,19 @@ use Rattle.comb_settle.proofs.mark.mark_around.Statement.{statement}
 use Rattle.comb_settle.proofs.mark.mark_around.Tie as tie
 
 abbrev Inv-loop : tie.InvT-loop
-Inv-loop v places degrees edges weights before ne executed marks₀ n k₀ marks k = (n ≤ 16) × (k ≤ n) × (marks ≡ markAlong edges (fetched edges before weights ne) executed places v marks₀ k)
+Inv-loop v places degrees edges weights before ne executed marks₀ registers n k₀ marks k = (n ≤ 16) × (k ≤ n) × (marks ≡ markAlong (fetched edges before weights ne) (registers .grown) places v marks₀ k)
 
 abbrev μ-loop : tie.MeasureT-loop
-μ-loop v places degrees edges weights before ne executed marks₀ n k₀ marks k = n - k
+μ-loop v places degrees edges weights before ne executed marks₀ registers n k₀ marks k = n - k
 
-at-requires : tie.Need-at-requires Inv-loop μ-loop
-at-requires c κs = search (needs, around)
+mul-view : tie.Need-mul-view Inv-loop μ-loop
+mul-view c = search (needs, around)
+
+element-copy-out-view : tie.Need-element-copy-out-view Inv-loop μ-loop
+element-copy-out-view c = search (needs, around)
+
+view-requires : tie.Need-view-requires Inv-loop μ-loop
+view-requires c κs = search (needs, around)
 
 is-propagating-requires : tie.Need-is-propagating-requires Inv-loop μ-loop
 is-propagating-requires c κs = search (needs, around)
@@ -67,7 +73,9 @@ mark-around-spec =
     (tie.spec
     Inv-loop
     μ-loop
-    at-requires
+    mul-view
+    element-copy-out-view
+    view-requires
     is-propagating-requires
     returns
     element-copy-out-n

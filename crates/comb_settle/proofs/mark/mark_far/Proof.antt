@@ -1,4 +1,4 @@
--- A mark stays, and the far end gets one where the edge at the place is tight.
+-- A mark stays, and the far end gets one where the edge at the place is tight by the amount.
 use Rattle.comb_settle.proofs.Marking.{far-marked}
 use borrow.Author.Needs.{needs}
 use Rattle.comb_settle.proofs.mark.mark_far.Statement.{statement}
@@ -10,17 +10,8 @@ cast-e c = search needs
 cast-far : tie.Need-cast-far
 cast-far c = search needs
 
-mul-post-fetch-is-tight : tie.Need-mul-post-fetch-is-tight
-mul-post-fetch-is-tight c = search needs
-
-element-copy-out-post-fetch-is-tight : tie.Need-element-copy-out-post-fetch-is-tight
-element-copy-out-post-fetch-is-tight c = search needs
-
 fetch-weight-requires : tie.Need-fetch-weight-requires
 fetch-weight-requires c κs = search needs
-
-post-fetch-is-tight-requires : tie.Need-post-fetch-is-tight-requires
-post-fetch-is-tight-requires c κs = search needs
 
 element-copy-out-marks : tie.Need-element-copy-out-marks
 element-copy-out-marks c = search needs
@@ -29,7 +20,7 @@ element-write-marks : tie.Need-element-write-marks
 element-write-marks c = search needs
 
 returns : tie.Need-returns
-returns c = far-marked _ _ _ _ _ _ (c .before .before .fetch-weight .ensures) _ (c .before .post-fetch-is-tight .ensures)
+returns c = search (needs, far-marked)
 
 pub mark-far-spec : {M : Type 1} → statement M
 mark-far-spec =
@@ -37,10 +28,7 @@ mark-far-spec =
     (tie.spec
     cast-e
     cast-far
-    mul-post-fetch-is-tight
-    element-copy-out-post-fetch-is-tight
     fetch-weight-requires
-    post-fetch-is-tight-requires
     element-copy-out-marks
     element-write-marks
     returns)

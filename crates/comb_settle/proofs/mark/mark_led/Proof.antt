@@ -1,4 +1,4 @@
--- The loop holds the marks of the vertices passed; no edge ends beyond the reach, so in the end they tell who has no peer.
+-- The loop holds the marks of the vertices passed, in the end of all below the reach.
 -- The measure is what is left of the reach.
 use Prim.Native.Nat.{_≤_, _-_}
 use mathlib.Core.Path.{_≡_}
@@ -15,14 +15,11 @@ Inv-loop places degrees edges weights before ne executed reach marks₀ v₀ mar
 abbrev μ-loop : tie.MeasureT-loop
 μ-loop places degrees edges weights before ne executed reach marks₀ v₀ marks v = reach - v
 
-no-marks-requires : tie.Need-no-marks-requires Inv-loop μ-loop
-no-marks-requires c κs = search (needs, marking)
+no-vertices-requires : tie.Need-no-vertices-requires Inv-loop μ-loop
+no-vertices-requires c κs = search (needs, marking)
 
 loop-holds : tie.Need-loop-holds Inv-loop μ-loop
 loop-holds c = search (needs, marking)
-
-cast-mark-around : tie.Need-cast-mark-around Inv-loop μ-loop
-cast-mark-around c = search (needs, marking)
 
 mark-around-requires : tie.Need-mark-around-requires Inv-loop μ-loop
 mark-around-requires c κs = search (needs, marking)
@@ -45,9 +42,8 @@ mark-led-spec =
     (tie.spec
     Inv-loop
     μ-loop
-    no-marks-requires
+    no-vertices-requires
     loop-holds
-    cast-mark-around
     mark-around-requires
     add-v
     loop-less

@@ -1,0 +1,78 @@
+// A report as one number, its rank: the lesser is the stronger, so that a walk over the edges carries and compares numbers alone.
+// specs/Rank.antt says which report a rank is.
+use crate::report::Report;
+use crate::report::response;
+use rules::finding::Finding;
+use rules::finding::Length;
+use rules::finding::Response;
+use rules::index::EdgeIndex;
+ghost use mathlib.Core.Path.{_≡_};
+ghost use Prim.Native.Nat.{min};
+ghost use Rattle.rules.specs.Fetch.{fetched};
+ghost use Rattle.places.specs.Places.{edgeIn};
+ghost use Rattle.comb_cycle.specs.Rank.{reportIn};
+ghost use Rattle.comb_cycle.specs.Strongest as Strongest;
+
+fn rank_of_length(length: Length) -> u64
+    ensures { λ r. ⌜ reportIn r ≡ Report.Length length ⌝ }
+{
+    match length {
+        Length::NoLimit => 12_884_901_888,
+        Length::Ahead(n) => 8_589_934_592 + n as u64,
+        Length::Behind(n) => 8_589_934_591 - n as u64,
+    }
+}
+
+// The rank of what edge e reports with a response.
+fn rank_of(e: EdgeIndex, response: Response) -> u64
+    ensures { λ r. ⌜ reportIn r ≡ Strongest.reportOf (e .0) response ⌝ }
+{
+    match response {
+        Response::OddRemaining => 0,
+        Response::Reports(finding) => match finding {
+            Finding::Conflict(_, _) => 4_294_901_760 + e.0 as u64,
+            Finding::GrowLength(length) => rank_of_length(length),
+        },
+    }
+}
+
+// The rank of the report of the edge at a place.
+pub(crate) fn rank_at<'a>(
+    edges: &'a [u32; 1024],
+    weights: &'a [u32; 1024],
+    before: &'a [u64; 256],
+    ne: usize,
+    registers: &'a [u64; 256],
+    shadows: &'a [u64; 256],
+    place: u32,
+) -> u64
+    ensures { λ r. ⌜ reportIn r ≡ Strongest.report (now (edges .entry)) (fetched (now (edges .entry)) (now (before .entry)) (now (weights .entry)) ne) (now (registers .entry)) (now (shadows .entry)) (edgeIn place) ⌝ }
+{
+    let e = (place % 1_024) as u16;
+    let response = response(edges, weights, before, ne, registers, shadows, e as usize);
+    rank_of(EdgeIndex(e), response)
+}
+
+pub(crate) fn lesser(a: u64, b: u64) -> u64
+    ensures { λ r. ⌜ r ≡ min a b ⌝ }
+{
+    if b < a { b } else { a }
+}
+
+pub(crate) fn report_in(rank: u64) -> Report
+    ensures { λ r. ⌜ r ≡ reportIn rank ⌝ }
+{
+    if rank < 4_294_901_760 {
+        return Report::Odd;
+    }
+    if rank < 4_294_967_296 {
+        return Report::Conflict(EdgeIndex((rank - 4_294_901_760) as u16));
+    }
+    if rank < 8_589_934_592 {
+        return Report::Length(Length::Behind((8_589_934_591 - rank) as u32));
+    }
+    if rank < 12_884_901_888 {
+        return Report::Length(Length::Ahead((rank - 8_589_934_592) as u32));
+    }
+    Report::Length(Length::NoLimit)
+}
