@@ -1,5 +1,5 @@
 -- The three ends of a cycle, over variables: stage 3 refuses, an edge is odd, or all is written together.
-use Prim.Native.Nat.{ℕ, _≤_}
+use Prim.Native.Nat.{ℕ}
 use mathlib.Core.Path.{_≡_, refl, sym, ap, _∙_}
 use mathlib.Core.Bool.{Bool, true, false}
 use mathlib.Core.List.{List}
@@ -13,7 +13,7 @@ use Rattle.rules.specs.Units.{stalledVertices, stalledEdges}
 use Rattle.rules.specs.Execute.{executed, executeRefusal}
 use Rattle.rules.specs.Update.{updated}
 use Rattle.rules.specs.Shadow.{shadows}
-use Rattle.rules.specs.Reduce.{someOdd, vertexFinding, finding}
+use Rattle.rules.specs.Reduce.{someOdd, finding}
 use Rattle.rules.specs.Instruct.{refused, concluded, settled, carried, step}
 use Rattle.rules.specs.declared.graph.Graph.{Graph}
 use Rattle.rules.specs.declared.state.Cycle.{Cycle}
@@ -28,7 +28,7 @@ use Rattle.rules.specs.declared.refusal.Refusal.the-variants as R
 use Rattle.comb_vertex.specs.Execution.{execution, paint-over}
 use Rattle.comb_vertex.specs.declared.execute.Execution.{Execution}
 use Rattle.comb_vertex.specs.declared.execute.Execution.the-variants as E
-use Rattle.comb_cycle.specs.Cycled.{Cycled, stateOf, cycledAs, ofCycle, cycled}
+use Rattle.comb_cycle.specs.Cycled.{stateOf, cycledAs, ofCycle, cycled}
 use Rattle.comb_cycle.proofs.Showing.{updated-shown, shadows-shown}
 use Rattle.comb_cycle.specs.Lent.{graphOf}
 use Rattle.comb_cycle.specs.Responses.{findingTo, responded}

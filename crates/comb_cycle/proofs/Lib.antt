@@ -1,7 +1,9 @@
 pub mod Strengths
 pub mod Ranks
 pub mod Answers
+pub mod Sides
 pub mod Covered
+pub mod Listing
 pub mod Responds
 pub mod Staging
 pub mod Showing

@@ -1,39 +1,36 @@
--- Each turn of a walk takes in one report more, or none where the vertex does not grow; at its end a walk has what all edges report, and the
--- strongest report is the answer. Over variables.
+-- Each turn of a walk takes in one report more; at its end a walk has what all edges report, and the strongest report is the answer. Over variables.
 use Prim.Native.Nat.{ℕ, _+_, _*_, _≤_, _<_, min}
 use mathlib.Core.Path.{_≡_, refl, sym, ap, _∙_}
-use mathlib.Core.Bool.{Bool, true, false, not}
 use mathlib.Core.List.{List, [], _∷_}
 use native.Mathlib.Numerals.{add-one}
 use native.Mathlib.Omega.{arith}
 use types.Run.{OneOf}
 use denote.Enum.Declared.{tagOf}
-use lib.ListN.{getD}
-use borrow.Author.Tests.{not-true, not-false}
+use lib.ListN.{length, getD}
 use Rattle.laws.specs.Choice.{pick}
-use Rattle.laws.specs.Fold.{upTo}
+use Rattle.laws.specs.Fold.{upTo, countTo}
 use Rattle.laws.specs.Semilattice.{joined}
-use Rattle.rules.specs.Registers.{at, growing, view}
 use Rattle.rules.specs.Reduce.{reduce}
 use Rattle.rules.specs.declared.index.EdgeIndex.{EdgeIndex}
-use Rattle.rules.specs.declared.instruction.CompactGrowState.the-variants.{Stay, Grow, Shrink}
 use Rattle.rules.specs.declared.finding.Finding.{Finding}
 use Rattle.rules.specs.declared.finding.Response.{Response}
 use Rattle.rules.specs.declared.finding.Response.the-variants.{Reports, OddRemaining}
 use Rattle.rules.proofs.finding.Response.{the-type}
 use Rattle.places.specs.Ends.{Ends}
-use Rattle.places.specs.Places.{edgeIn}
+use Rattle.places.specs.Places.{edgeIn, farIn}
 use Rattle.places.specs.Wired.{Wired}
+use Rattle.comb_cycle.specs.Listed.{growsAt, listed}
 use Rattle.comb_cycle.specs.Rank.{reportIn}
 use Rattle.comb_cycle.specs.Responses.{responded}
-use Rattle.comb_cycle.specs.Strongest.{stronger, strongestOf, report, strongest, strongestAt, answer, reducedWith}
+use Rattle.comb_cycle.specs.Strongest.{stronger, strongestOf, reportFrom, strongest, strongestAt, answer, reducedWith}
 use Rattle.comb_cycle.specs.declared.report.Report.{Report}
 use Rattle.comb_cycle.specs.declared.report.Report.the-variants.{Odd, Conflict, Length}
 use Rattle.comb_cycle.proofs.report.Report as Reported
 use Rattle.comb_cycle.proofs.Strengths.{strengths}
 use Rattle.comb_cycle.proofs.Ranks.{lesser-stronger}
 use Rattle.comb_cycle.proofs.Answers.{conflict-below, answered}
-use Rattle.comb_cycle.proofs.Covered.{placeReport, places-strongest, heard, heard-strongest}
+use Rattle.comb_cycle.proofs.Covered.{placeReport, places-strongest, heard-strongest}
+use Rattle.comb_cycle.proofs.Listing.{heardFrom, listed-heard}
 
 pub walk-begins : (f : ℕ → Report) → reportIn 12_884_901_888 ≡ strongestOf f 0
 unfolding strongestOf joined upTo reportIn pick
@@ -52,7 +49,7 @@ module _ (start : Report) where
   places-begin f = sym (strengths .unit start)
 
   module _ (es fs ys ss ps : List ℕ) where
-    pub place-turn : (v k x a b : ℕ) → reportIn x ≡ report es fs ys ss (edgeIn (getD ps (v * 16 + k) 0)) → b ≡ min a x
+    pub place-turn : (v k x a b : ℕ) → reportIn x ≡ reportFrom fs ys ss v (edgeIn (getD ps (v * 16 + k) 0)) (farIn (getD ps (v * 16 + k) 0)) → b ≡ min a x
         → reportIn a ≡ stronger start (strongestOf (placeReport es fs ys ss ps v) k)
         → reportIn b ≡ stronger start (strongestOf (placeReport es fs ys ss ps v) (k + 1))
     unfolding placeReport
@@ -67,26 +64,16 @@ module _ (start : Report) where
 
 -- ---- over the vertices
 
--- the speed of code 1 alone grows
-pub grows-by : (b c : Bool) → b ≡ growing (pick b Grow (pick c Shrink Stay))
-unfolding pick
-grows-by true c = refl
-grows-by false true = refl
-grows-by false false = refl
+module _ (es fs ys ss : List ℕ) (ne : ℕ) (xs : List ℕ) where
+  pub vertex-turn : (i : ℕ) {a b : Report} → b ≡ stronger a (strongestAt es fs ys ss ne (getD xs i 0)) → a ≡ strongestOf (heardFrom es fs ys ss ne xs) i
+      → b ≡ strongestOf (heardFrom es fs ys ss ne xs) (i + 1)
+  unfolding heardFrom
+  vertex-turn i p h = one-more (heardFrom es fs ys ss ne xs) i p refl h
 
-module _ (es fs ys ss : List ℕ) (ne : ℕ) where
-  module _ (v : ℕ) {g : Bool} (is : g ≡ growing (view (getD ss v 0) .speed)) where
-    pub still-turn : not g ≡ true → {a : Report} → a ≡ strongestOf (heard es fs ys ss ne) v → a ≡ strongestOf (heard es fs ys ss ne) (v + 1)
-    unfolding heard at pick
-    still-turn n {a} h = one-more (heard es fs ys ss ne) v (sym (strengths .unit a)) (rw (← is, not-true g n)) h
-
-    pub grown-turn : not g ≡ false → {a b : Report} → b ≡ stronger a (strongestAt es fs ys ss ne v) → a ≡ strongestOf (heard es fs ys ss ne) v
-        → b ≡ strongestOf (heard es fs ys ss ne) (v + 1)
-    unfolding heard at pick
-    grown-turn n p h = one-more (heard es fs ys ss ne) v p (rw (← is, not-false g n)) h
-
-  pub vertices-end : (v r : ℕ) {a : Report} → a ≡ strongestOf (heard es fs ys ss ne) v → v ≤ r → r ≤ v → Ends es ne r → a ≡ strongest es fs ys ss ne
-  vertices-end v r h i j ends = let z : v ≡ r = omega arith in h ∙ rw z (heard-strongest es fs ys ss ne r ends)
+  pub vertices-end : (ts : List ℕ) (i n r : ℕ) {a : Report} → a ≡ strongestOf (heardFrom es fs ys ss ne xs) i → i ≤ n → n ≤ i → n ≡ countTo (growsAt ss) r
+      → xs ≡ listed (growsAt ss) ts r → r ≤ length ts → Ends es ne r → a ≡ strongest es fs ys ss ne
+  vertices-end ts i n r h k l many which inside ends =
+      let z : i ≡ n = omega arith in h ∙ rw (z, many, which) (listed-heard es fs ys ss ne ts r inside) ∙ heard-strongest es fs ys ss ne r ends
 
 -- ---- what is answered
 
@@ -116,4 +103,4 @@ module _ (es fs ys ss : List ℕ) (ne : ℕ) {x : Report} {r : Response} (says :
   pub responds-found : (start : Finding) {g h : Finding} → r ≡ Reports g → h ≡ reduce start g → Reports h ≡ responded es fs ys ss ne start
   responds-found start q p = ap Reports p ∙ ap (reducedWith start) (sym q) ∙ responds-by start
 
-pub ruleset responds = (walk-begins, places-begin, place-turn, places-end, still-turn, grown-turn, vertices-end, strongest-read, responds-odd, responds-found)
+pub ruleset responds = (walk-begins, places-begin, place-turn, places-end, vertex-turn, vertices-end, strongest-read, responds-odd, responds-found)

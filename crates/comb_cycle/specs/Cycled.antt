@@ -7,7 +7,7 @@ use mathlib.Core.Option.{Option, none, some}
 use native.Mathlib.Omega.{arith}
 use Rattle.laws.specs.Choice.{pick, by-test}
 use Rattle.rules.specs.Execute.{executed, executeRefusal}
-use Rattle.rules.specs.Instruct.{verticesStalled, refused, concluded, settled, carried, step}
+use Rattle.rules.specs.Instruct.{verticesStalled, concluded, settled, carried, step}
 use Rattle.rules.specs.declared.graph.Graph.{Graph}
 use Rattle.rules.specs.declared.state.State.{State}
 use Rattle.rules.specs.declared.state.Cycle.{Cycle}

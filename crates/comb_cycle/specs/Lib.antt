@@ -1,5 +1,6 @@
 pub mod Cycled
 pub mod Lent
+pub mod Listed
 pub mod Rank
 pub mod Responses
 pub mod Stages

@@ -1,12 +1,14 @@
 -- Stages 7 and 8 in any order: each edge has a report, and the strongest one decides. `stronger` minds neither the order of the edges nor that
 -- one is met twice (proofs/Strengths.antt).
-use Prim.Native.Nat.{ℕ, min}
+use Prim.Native.Nat.{ℕ, _+_, min}
 use mathlib.Core.List.{List}
+use lib.ListN.{getD}
 use Rattle.laws.specs.Choice.{pick}
 use Rattle.laws.specs.Semilattice.{joined}
 use Rattle.rules.specs.Graph.{touches}
+use Rattle.rules.specs.Registers.{at}
 use Rattle.rules.specs.Reduce.{least, reduce}
-use Rattle.rules.specs.Respond.{edgeResponse}
+use Rattle.rules.specs.Respond.{less, respond, edgeResponse}
 use Rattle.rules.specs.declared.finding.Length.the-variants.{NoLimit}
 use Rattle.rules.specs.declared.finding.Finding.{Finding}
 use Rattle.rules.specs.declared.finding.Finding.the-variants.{GrowLength, Conflict}
@@ -38,6 +40,11 @@ abbrev pub reportOf : ℕ → Response → Report
 reportOf e (Reports (GrowLength l)) = LengthOf l
 reportOf e (Reports (Conflict a b)) = ConflictAt (record { 0 = e })
 reportOf e OddRemaining = Odd
+
+module _ (fs ys ss : List ℕ) where
+  -- what is heard at v of edge e, whose far end is w
+  unfoldable pub reportFrom : ℕ → ℕ → ℕ → Report
+  reportFrom v e w = reportOf e (respond (at ss v) (at ss w) v w (less (getD fs e 0) (at ys v .grown + at ys w .grown)))
 
 module _ (es fs ys ss : List ℕ) where
   unfoldable pub report : ℕ → Report

@@ -1,22 +1,15 @@
 // The strongest report of all edges, by its rank. An edge that is not idle has an end whose shadow grows, and few shadows do, so only the edges
 // of these are looked at.
+use crate::growing::list_growing;
+use crate::rank::NO_LIMIT;
 use crate::rank::lesser;
 use crate::rank::rank_at;
 ghost use mathlib.Core.Path.{_≡_};
-ghost use Prim.Native.Nat.{_<_};
 ghost use Rattle.rules.specs.Fetch.{fetched};
-ghost use Rattle.rules.specs.Registers.{growing, view};
 ghost use Rattle.places.specs.Ends.{Ends};
 ghost use Rattle.places.specs.Wired.{Wired};
 ghost use Rattle.comb_cycle.specs.Rank.{reportIn};
 ghost use Rattle.comb_cycle.specs.Strongest as Strongest;
-
-// The speed alone is looked at: most vertices are passed by this test.
-fn grows(shadow: u64) -> bool
-    ensures { λ r. ⌜ r ≡ growing (view shadow .speed) ⌝ }
-{
-    shadow / 288_230_376_151_711_744 % 4 == 1
-}
 
 // The rank of the strongest of a report and those of the edges of one vertex.
 fn strongest_at<'a>(
@@ -28,13 +21,13 @@ fn strongest_at<'a>(
     shadows: &'a [u64; 256],
     places: &'a [u32; 4096],
     degrees: &'a [u8; 256],
-    v: usize,
+    v: u8,
     start: u64,
 ) -> u64
-    requires { ⌜ (v < 256) × Wired (now edges) ne (now places) (now degrees) ⌝ }
+    requires { ⌜ Wired (now edges) ne (now places) (now degrees) ⌝ }
     ensures { λ r. ⌜ reportIn r ≡ Strongest.stronger (reportIn start) (Strongest.strongestAt (now (edges .entry)) (fetched (now (edges .entry)) (now (before .entry)) (now (weights .entry)) ne) (now (registers .entry)) (now (shadows .entry)) ne v) ⌝ }
 {
-    let n = degrees[v];
+    let n = degrees[v as usize];
     let mut strongest = start;
     let mut k: u8 = 0;
     while k < n {
@@ -45,7 +38,8 @@ fn strongest_at<'a>(
             ne,
             registers,
             shadows,
-            places[v * 16 + k as usize],
+            v,
+            places[v as usize * 16 + k as usize],
         );
         strongest = lesser(strongest, rank);
         k += 1;
@@ -67,14 +61,11 @@ pub(crate) fn strongest<'a>(
     requires { ⌜ Wired (now edges) ne (now places) (now degrees) × Ends (now edges) ne reach ⌝ }
     ensures { λ r. ⌜ reportIn r ≡ Strongest.strongest (now (edges .entry)) (fetched (now (edges .entry)) (now (before .entry)) (now (weights .entry)) ne) (now (registers .entry)) (now (shadows .entry)) ne ⌝ }
 {
-    // No limit.
-    let mut strongest = 12_884_901_888;
-    let mut v = 0;
-    while v < reach {
-        if !grows(shadows[v]) {
-            v += 1;
-            continue;
-        }
+    let mut vertices = [0u8; 256];
+    let n = list_growing(shadows, reach, &mut vertices);
+    let mut strongest = NO_LIMIT;
+    let mut i = 0;
+    while i < n {
         strongest = strongest_at(
             edges,
             weights,
@@ -84,10 +75,10 @@ pub(crate) fn strongest<'a>(
             shadows,
             places,
             degrees,
-            v,
+            vertices[i],
             strongest,
         );
-        v += 1;
+        i += 1;
     }
     strongest
 }

@@ -17,7 +17,7 @@ pub fn less(a: u32, b: u32) -> Length
     Length::Behind(b - a)
 }
 
-pub fn is_zero(length: Length) -> bool
+pub(crate) fn is_zero(length: Length) -> bool
     ensures { λ r. ⌜ r ≡ Respond.isZero length ⌝ }
 {
     match length {
@@ -27,7 +27,7 @@ pub fn is_zero(length: Length) -> bool
     }
 }
 
-pub fn is_odd(length: Length) -> bool
+pub(crate) fn is_odd(length: Length) -> bool
     ensures { λ r. ⌜ r ≡ Respond.isOdd length ⌝ }
 {
     match length {
@@ -37,7 +37,7 @@ pub fn is_odd(length: Length) -> bool
     }
 }
 
-pub fn half(length: Length) -> Length
+pub(crate) fn half(length: Length) -> Length
     ensures { λ r. ⌜ r ≡ Respond.half length ⌝ }
 {
     match length {
@@ -55,7 +55,7 @@ fn growth(speed: CompactGrowState) -> u32
 }
 
 // The joint speed of two ends where it is positive, else 0. A sum, since which end grows is hard to predict.
-pub fn joint(left: CompactGrowState, right: CompactGrowState) -> u32
+pub(crate) fn joint(left: CompactGrowState, right: CompactGrowState) -> u32
     ensures { λ r. ⌜ r ≡ Respond.joint left right ⌝ }
 {
     if left.is_shrinking() {

@@ -26,8 +26,8 @@ use Rattle.rules.specs.declared.instruction.Instruction.{Instruction}
 use Rattle.rules.specs.declared.instruction.Instruction.the-variants.{FindObstacle, Grow as GrowBy}
 use Rattle.rules.specs.declared.refusal.Refusal.{Refusal}
 use Rattle.rules.specs.declared.refusal.Refusal.the-variants.{OddRemaining}
-use Rattle.comb_cycle.specs.Cycled.{Cycled, stateOf, cycledAs, ofCycle, cycled}
-use Rattle.comb_search.specs.Repeats.{Repeats}
+use Rattle.comb_cycle.specs.Cycled.{Cycled, stateOf, ofCycle, cycled}
+use Rattle.comb_search.specs.Repeats.{Repeats, RepeatsTurn}
 use Rattle.comb_search.specs.Next.{nextOf, nextBy}
 use Rattle.comb_search.specs.Turn.{Turned, turnedAs, grewBy, afterNext, afterAnswer, turned}
 use Rattle.comb_search.specs.declared.turn.Turn.{Turn}
@@ -118,21 +118,36 @@ module _ (g : Graph) (ws : List ℕ) (all : Searched) (rs : List ℕ) (st st′ 
 
 -- ---- a turn of the loop: one step, and those that repeat it
 
-module _ (g : Graph) (ws : List ℕ) (all : Searched) (rs rs′ : List ℕ) (st st′ : List Bool) (left growth steps n : ℕ) (t : Turn)
-    (p : Seeking g ws all rs st left growth steps) (e : turnedAs rs′ st′ t ≡ turned g ws left rs st) (q : t ≡ Grew n) where
-  stepped : Seeking g ws all rs′ st′ (left - n) (growth + n) (steps + 1)
-  stepped = goes-on g ws all rs rs′ st st′ left growth steps t p e n q
+-- what is left covers a step of length n and k more, which are at most as many as they grow by
+pub record Covers (left n k : ℕ) : Type 0 where
+  pub some : 1 ≤ n
+  pub most : n ≤ left
+  pub fits : k * n ≤ left - n
+  pub few : k ≤ k * n
 
-  less : 1 ≤ n → n ≤ left → left - n < left
-  less o w = omega arith
+times : (k n : ℕ) → 1 ≤ n → k ≤ k * n
+times zero n o = omega arith
+times (suc k) n o = omega (arith, suc-mul k n, times k n o)
 
-  pub leaps : (k : ℕ) → Repeats rs rs′ (left - n) n k → Seeking g ws all rs′ st′ (left - n - k * n) (growth + n + k * n) (steps + 1 + k)
-  leaps zero h = counted g ws all rs′ st′ (omega (arith, zero-mul n)) (omega (arith, zero-mul n)) (omega arith) stepped
-  leaps (suc k) h =
-      let z : rs ≡ rs′ = h .still (omega arith) in
+module _ (g : Graph) (ws rs rs′ : List ℕ) (st st′ : List Bool) (left n : ℕ) (t : Turn) (e : turnedAs rs′ st′ t ≡ turned g ws left rs st) (q : t ≡ Grew n) where
+  repeats : (k : ℕ) → RepeatsTurn rs rs′ left t k → Repeats rs rs′ (left - n) n k
+  repeats k h = rw q at h
+
+  pub covers : (k : ℕ) → RepeatsTurn rs rs′ left t k → Covers left n k
+  covers k h =
       let o = grew-some g ws left rs rs′ st st′ t e n q in
-      let w = grew-most g ws left rs rs′ st st′ t e n q in
-      repeated g ws all rs′ st st′ left n t (rw z at e) q (suc k) (left - n) (growth + n) (steps + 1) (less o w) (h .fits) stepped
+      record { some = o; most = grew-most g ws left rs rs′ st st′ t e n q; fits = repeats k h .fits; few = times k n o }
+
+  module _ (all : Searched) (growth steps : ℕ) (p : Seeking g ws all rs st left growth steps) where
+    stepped : Seeking g ws all rs′ st′ (left - n) (growth + n) (steps + 1)
+    stepped = goes-on g ws all rs rs′ st st′ left growth steps t p e n q
+
+    pub leaps : (k : ℕ) → RepeatsTurn rs rs′ left t k → Seeking g ws all rs′ st′ (left - n - k * n) (growth + n + k * n) (steps + 1 + k)
+    leaps zero h = counted g ws all rs′ st′ (omega (arith, zero-mul n)) (omega (arith, zero-mul n)) (omega arith) stepped
+    leaps (suc k) h =
+        let z : rs ≡ rs′ = repeats (suc k) h .still (omega arith) in
+        let c = covers (suc k) h in
+        repeated g ws all rs′ st st′ left n t (rw z at e) q (suc k) (left - n) (growth + n) (steps + 1) (omega (arith, c)) (c .fits) stepped
 
 -- ---- the comparison
 
@@ -167,10 +182,8 @@ module _ (a b : List ℕ) (left n : ℕ) where
   pub repeats-some : (same : Bool) → (same ≡ true → a ≡ b) → same ≡ true → Repeats a b left n (left / n)
   repeats-some same h t = record { fits = div-mul-le-self left n; still = λ l. h t }
 
-times : (k n : ℕ) → 1 ≤ n → k ≤ k * n
-times zero n o = omega arith
-times (suc k) n o = omega (arith, suc-mul k n, times k n o)
-
--- such steps are at most as many as they grow by
-pub at-least : {a b : List ℕ} {left n k : ℕ} → Repeats a b left n k → 1 ≤ n → k ≤ k * n
-at-least {n = n} {k = k} r o = times k n o
+module _ (a b : List ℕ) (left : ℕ) where
+  pub turn-repeats-none : (t : Turn) → RepeatsTurn a b left t 0
+  turn-repeats-none (Found f) = refl
+  turn-repeats-none (Stopped r) = refl
+  turn-repeats-none (Grew n) = repeats-none a b (left - n) n

@@ -1,4 +1,4 @@
 pub mod Nexts
-pub mod Turns
+pub mod Ways
 pub mod Seeks
 pub mod Again

@@ -1,43 +1,15 @@
 // Document 01, "Search", on lent tables.
 use crate::turn::Turn;
-use crate::turn::take_turn;
+use crate::turns::Turns;
+use crate::turns::take_turns;
 use comb_cycle::cycle::Counts;
 use rules::finding::Sought;
 use rules::finding::Tally;
-ghost use mathlib.Core.Bool.{true};
 ghost use mathlib.Core.Path.{_≡_};
-ghost use Prim.Native.Nat.{suc, _≤_};
+ghost use Prim.Native.Nat.{suc};
 ghost use Rattle.comb_cycle.specs.Cycled.{stateOf};
 ghost use Rattle.comb_cycle.specs.Lent.{Ready, graphOf};
-ghost use Rattle.comb_search.specs.Repeats.{Repeats};
 ghost use Rattle.comb_search.specs.Seek.{seek, searchedAs};
-
-fn is_same(a: &[u64], b: &[u64]) -> bool
-    ensures { λ r. ⌜ (r ≡ true → now (a .entry) ≡ now (b .entry)) ⌝ }
-{
-    if a.len() != b.len() {
-        return false;
-    }
-    let mut i = 0;
-    while i < a.len() {
-        if a[i] != b[i] {
-            return false;
-        }
-        i += 1;
-    }
-    true
-}
-
-// A step that leaves the registers as they were is found again while its length is left: such steps are taken together.
-fn repeats(before: &[u64; 256], after: &[u64; 256], left: u32, length: u32) -> u32
-    requires { ⌜ 1 ≤ length ⌝ }
-    ensures { λ r. ⌜ Repeats (now (before .entry)) (now (after .entry)) left length r ⌝ }
-{
-    if is_same(before, after) {
-        return left / length;
-    }
-    0
-}
 
 // The maximum that a search leaves, and its answer.
 pub struct Search {
@@ -64,8 +36,7 @@ pub fn find_obstacle<'a>(
     let mut growth: u32 = 0;
     let mut steps: u32 = 0;
     loop {
-        let before = *registers;
-        let turn = take_turn(
+        let Turns { turn, more } = take_turns(
             counts,
             vertices,
             edges,
@@ -75,6 +46,7 @@ pub fn find_obstacle<'a>(
             weights,
             registers,
             stalled,
+            steps,
             left,
         );
         match turn {
@@ -94,7 +66,6 @@ pub fn find_obstacle<'a>(
                 left -= length;
                 growth += length;
                 steps += 1;
-                let more = repeats(&before, registers, left, length);
                 left -= more * length;
                 growth += more * length;
                 steps += more;

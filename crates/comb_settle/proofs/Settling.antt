@@ -19,7 +19,7 @@ use Rattle.rules.specs.Update.{isLoose, update}
 use Rattle.rules.specs.Shadow.{yielded, shadow}
 use Rattle.rules.specs.declared.registers.VertexRegisters.{VertexRegisters}
 use Rattle.rules.specs.declared.registers.PropagatingPeer.{PropagatingPeer}
-use Rattle.rules.specs.declared.registers.PropagatingPeer.the-variants.{Nobody, Leads}
+use Rattle.rules.specs.declared.registers.PropagatingPeer.the-variants.{Nobody}
 use Rattle.comb_vertex.specs.Led.{peerAt}
 use Rattle.comb_settle.specs.Marked.{Marks}
 use Rattle.comb_settle.specs.Settled.{kept, updatedWord, seenBy, shadowWord}

@@ -10,11 +10,10 @@ use lib.ListN.{getD}
 use borrow.Author.Tests.{eqb-true, eq-eqb, leb-true, le-leb, not-true}
 use Rattle.laws.specs.Choice.{_or_, pick, by-test, and-left}
 use Rattle.laws.specs.Leading.{leading-each}
-use Rattle.laws.specs.Tests.{the-first, the-second}
 use Rattle.rules.specs.Graph.{leftOf, rightOf, touches, farEnd, fits, edgesInUse}
 use Rattle.rules.specs.Registers.{at}
 use Rattle.rules.specs.Fetch.{tight}
-use Rattle.places.specs.Ends.{Ends}
+use Rattle.places.specs.Ends.{Ends, touches-left, touches-right}
 use Rattle.places.specs.Wired.{Wired}
 
 module _ (es : List ℕ) (v e : ℕ) where
@@ -23,10 +22,8 @@ module _ (es : List ℕ) (v e : ℕ) where
   far-below {ne} {r} ends l = by-test (λ (w : ℕ). w < r) (eqb (leftOf es e) v) (λ t. ends .right e l) (λ t. ends .left e l)
 
   pub far-touches : touches es (farEnd es v e) e ≡ true
-  unfolding touches farEnd
-  far-touches =
-      by-test (λ (w : ℕ). (eqb (leftOf es e) w or eqb (rightOf es e) w) ≡ true) (eqb (leftOf es e) v)
-      (λ t. the-second _ _ (eq-eqb (rightOf es e) (rightOf es e) refl)) (λ t. the-first _ _ (eq-eqb (leftOf es e) (leftOf es e) refl))
+  unfolding farEnd
+  far-touches = by-test (λ (w : ℕ). touches es w e ≡ true) (eqb (leftOf es e) v) (λ t. touches-right es e) (λ t. touches-left es e)
 
 -- l and r are the ends
 back : (l r v : ℕ) (b : Bool) → eqb l v ≡ b → eqb l r ≡ false → (b or eqb r v) ≡ true → pick (eqb l (pick b r l)) r l ≡ v

@@ -1,21 +1,20 @@
 -- Over the places of the edges in use these are stages 5 and 6 of document 01.
 use Prim.Native.Nat.{ℕ, zero, suc, _+_, _≤_, _<_}
-use mathlib.Core.Path.{_≡_, refl, sym, ap, _∙_}
-use mathlib.Core.Bool.{Bool, true, false}
+use mathlib.Core.Path.{_≡_, refl, sym, _∙_}
+use mathlib.Core.Bool.{Bool}
 use mathlib.Core.List.{List, [], _∷_}
 use mathlib.Core.Option.{Option, none, some}
 use native.Mathlib.Nat.{add-zero}
 use native.Mathlib.Omega.{arith}
-use lib.ListN.{length, getD}
+use lib.ListN.{length}
 use Rattle.laws.specs.Choice.{by-test}
 use Rattle.laws.specs.First.{first}
 use Rattle.laws.specs.Table.{paint, paintFrom, paint-same, getD-painted}
 use Rattle.rules.specs.Registers.{at, keep}
 use Rattle.rules.specs.Round.{InRange, at-in-range, round}
-use Rattle.rules.specs.Execute.{waits}
 use Rattle.rules.specs.Peer.{leadBy, servedBy, peer}
 use Rattle.rules.specs.Update.{isLoose, follow, update, updated}
-use Rattle.rules.specs.Shadow.{shadow, shadows}
+use Rattle.rules.specs.Shadow.{shadows}
 use Rattle.rules.specs.declared.registers.VertexRegisters.{VertexRegisters}
 use Rattle.rules.specs.declared.registers.PropagatingPeer.{PropagatingPeer}
 use Rattle.rules.specs.declared.registers.PropagatingPeer.the-variants.{Nobody, Leads}

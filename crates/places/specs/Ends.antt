@@ -1,16 +1,31 @@
--- How far the edges in use reach: no end of them stands at r or beyond, so a walk over the first r vertices meets every edge.
-use Prim.Native.Nat.{ℕ, zero, suc, _≤_, _<_, max, _/_, _%_}
+-- The ends of edges, and how far those in use reach: no end of them stands at r or beyond, so a walk over the first r vertices meets every edge.
+use Prim.Native.Nat.{ℕ, _≤_, _<_, _/_, _%_}
+use mathlib.Core.Path.{_≡_, refl}
+use mathlib.Core.Bool.{true}
 use mathlib.Core.List.{List}
 use native.Mathlib.Omega.{arith}
+use lib.Dec.{eqb}
 use lib.ListN.{getD}
+use borrow.Author.Tests.{eq-eqb}
 use Rattle.laws.specs.Fold.{upTo, upTo-each, upTo-keeps}
-use Rattle.rules.specs.Graph.{leftOf, rightOf}
+use Rattle.laws.specs.Tests.{the-first, the-second}
+use Rattle.rules.specs.Graph.{leftOf, rightOf, touches}
 use Rattle.places.specs.Put.{beyond}
 
 pub record Ends (es : List ℕ) (ne r : ℕ) : Type 0 where
   pub small : r ≤ 256
   pub left : (e : ℕ) → e < ne → leftOf es e < r
   pub right : (e : ℕ) → e < ne → rightOf es e < r
+
+-- an edge is one of those of each of its ends
+module _ (es : List ℕ) (e : ℕ) where
+  pub touches-left : touches es (leftOf es e) e ≡ true
+  unfolding touches
+  touches-left = let v = leftOf es e in the-first (eqb v v) (eqb (rightOf es e) v) (eq-eqb v v refl)
+
+  pub touches-right : touches es (rightOf es e) e ≡ true
+  unfolding touches
+  touches-right = let v = rightOf es e in the-second (eqb (leftOf es e) v) (eqb v v) (eq-eqb v v refl)
 
 module _ (es : List ℕ) where
   -- past the highest end of the first n edges

@@ -1,12 +1,12 @@
 -- What is told of the search from here on is what is told of all of it.
-use Prim.Native.Nat.{ℕ, suc, _+_, _≤_}
+use Prim.Native.Nat.{suc, _+_, _≤_}
 use mathlib.Core.Path.{_≡_}
 use native.Mathlib.Omega.{arith}
 use Rattle.comb_cycle.specs.Cycled.{stateOf}
 use Rattle.comb_cycle.specs.Lent.{graphOf}
 use Rattle.comb_search.specs.Seek.{seek}
-use Rattle.comb_search.proofs.Again.{leaps, at-least}
-use Rattle.comb_search.proofs.Seeks.{Seeking, begins, ends-found, ends-stopped, grew-some, grew-most}
+use Rattle.comb_search.proofs.Again.{Covers, covers, leaps}
+use Rattle.comb_search.proofs.Seeks.{Seeking, begins, ends-found, ends-stopped}
 use borrow.Author.Needs.{needs}
 use Rattle.comb_search.proofs.search.find_obstacle.Statement.{statement}
 use Rattle.comb_search.proofs.search.find_obstacle.Tie as tie
@@ -23,8 +23,8 @@ abbrev μ-loop : tie.MeasureT-loop
 loop-holds : tie.Need-loop-holds Inv-loop μ-loop
 loop-holds c = search (needs, begins)
 
-take-turn-requires : tie.Need-take-turn-requires Inv-loop μ-loop
-take-turn-requires c κs = search needs
+take-turns-requires : tie.Need-take-turns-requires Inv-loop μ-loop
+take-turns-requires c κs = search needs
 
 enum-known-turn : tie.Need-enum-known-turn Inv-loop μ-loop
 enum-known-turn c = search needs
@@ -41,41 +41,41 @@ returns-2 c = search (needs, ends-stopped)
 enum-known-turn-3 : tie.Need-enum-known-turn-3 Inv-loop μ-loop
 enum-known-turn-3 c = search needs
 
+covered : (c : tie.After-known-told3 Inv-loop μ-loop) → Covers (c .before .before .before .before .before .before .loop .left) (c .before .turn3 .given .0 .0) (c .before .before .before .take-turns .result .more)
+covered c = covers _ _ _ _ _ _ _ _ _ (c .before .before .before .take-turns .ensures .0) (c .before .turn3 .given .1) _ (c .before .before .before .take-turns .ensures .1)
+
 sub-left : tie.Need-sub-left Inv-loop μ-loop
-sub-left c = omega (arith, grew-most _ _ _ _ _ _ _ _ (c .before .before .before .take-turn .ensures) _ (c .before .turn3 .given .1))
+sub-left c = omega (arith, covered c)
 
 add-growth : tie.Need-add-growth Inv-loop μ-loop
-add-growth c = omega (arith, grew-most _ _ _ _ _ _ _ _ (c .before .before .before .take-turn .ensures) _ (c .before .turn3 .given .1))
+add-growth c = omega (arith, covered c)
 
 add-steps : tie.Need-add-steps Inv-loop μ-loop
-add-steps c = omega (arith, grew-most _ _ _ _ _ _ _ _ (c .before .before .before .take-turn .ensures) _ (c .before .turn3 .given .1), grew-some _ _ _ _ _ _ _ _ (c .before .before .before .take-turn .ensures) _ (c .before .turn3 .given .1))
-
-repeats-requires : tie.Need-repeats-requires Inv-loop μ-loop
-repeats-requires c κs = grew-some _ _ _ _ _ _ _ _ (c .before .before .before .before .before .take-turn .ensures) _ (c .before .before .before .turn3 .given .1)
+add-steps c = omega (arith, covered c)
 
 mul-left : tie.Need-mul-left Inv-loop μ-loop
-mul-left c = omega (arith, grew-most _ _ _ _ _ _ _ _ (c .before .before .before .before .before .before .take-turn .ensures) _ (c .before .before .before .before .turn3 .given .1), c .repeats .ensures .fits)
+mul-left c = omega (arith, covered c)
 
 sub-left-2 : tie.Need-sub-left-2 Inv-loop μ-loop
-sub-left-2 c = omega (arith, grew-most _ _ _ _ _ _ _ _ (c .before .before .before .before .before .before .take-turn .ensures) _ (c .before .before .before .before .turn3 .given .1), c .repeats .ensures .fits)
+sub-left-2 c = omega (arith, covered c)
 
 mul-growth : tie.Need-mul-growth Inv-loop μ-loop
-mul-growth c = omega (arith, grew-most _ _ _ _ _ _ _ _ (c .before .before .before .before .before .before .take-turn .ensures) _ (c .before .before .before .before .turn3 .given .1), c .repeats .ensures .fits)
+mul-growth c = omega (arith, covered c)
 
 add-growth-2 : tie.Need-add-growth-2 Inv-loop μ-loop
-add-growth-2 c = omega (arith, grew-most _ _ _ _ _ _ _ _ (c .before .before .before .before .before .before .take-turn .ensures) _ (c .before .before .before .before .turn3 .given .1), c .repeats .ensures .fits)
+add-growth-2 c = omega (arith, covered c)
 
 add-steps-2 : tie.Need-add-steps-2 Inv-loop μ-loop
-add-steps-2 c = omega (arith, grew-most _ _ _ _ _ _ _ _ (c .before .before .before .before .before .before .take-turn .ensures) _ (c .before .before .before .before .turn3 .given .1), grew-some _ _ _ _ _ _ _ _ (c .before .before .before .before .before .before .take-turn .ensures) _ (c .before .before .before .before .turn3 .given .1), c .repeats .ensures .fits, at-least (c .repeats .ensures) (grew-some _ _ _ _ _ _ _ _ (c .before .before .before .before .before .before .take-turn .ensures) _ (c .before .before .before .before .turn3 .given .1)))
+add-steps-2 c = omega (arith, covered c)
 
 loop-less : tie.Need-loop-less Inv-loop μ-loop
-loop-less c = omega (arith, grew-most _ _ _ _ _ _ _ _ (c .before .before .before .before .before .before .take-turn .ensures) _ (c .before .before .before .before .turn3 .given .1), grew-some _ _ _ _ _ _ _ _ (c .before .before .before .before .before .before .take-turn .ensures) _ (c .before .before .before .before .turn3 .given .1))
+loop-less c = omega (arith, covered c)
 
 loop-again : tie.Need-loop-again Inv-loop μ-loop
 loop-again c = (
-  leaps _ _ _ _ _ _ _ _ _ _ _ _ (c .before .before .before .before .before .before .before .before .before .before .loop .inv .0) (c .before .before .before .before .before .before .take-turn .ensures) (c .before .before .before .before .turn3 .given .1) _ (c .repeats .ensures),
-  omega (arith, grew-most _ _ _ _ _ _ _ _ (c .before .before .before .before .before .before .take-turn .ensures) _ (c .before .before .before .before .turn3 .given .1), c .repeats .ensures .fits),
-  omega (arith, grew-some _ _ _ _ _ _ _ _ (c .before .before .before .before .before .before .take-turn .ensures) _ (c .before .before .before .before .turn3 .given .1), at-least (c .repeats .ensures) (grew-some _ _ _ _ _ _ _ _ (c .before .before .before .before .before .before .take-turn .ensures) _ (c .before .before .before .before .turn3 .given .1))),
+  leaps _ _ _ _ _ _ _ _ _ (c .before .before .before .take-turns .ensures .0) (c .before .turn3 .given .1) _ _ _ (c .before .before .before .before .before .before .loop .inv .0) _ (c .before .before .before .take-turns .ensures .1),
+  omega (arith, covered c),
+  omega (arith, covered c),
 )
 
 pub find-obstacle-spec : {M : Type 1} → statement M
@@ -85,7 +85,7 @@ find-obstacle-spec =
     Inv-loop
     μ-loop
     loop-holds
-    take-turn-requires
+    take-turns-requires
     enum-known-turn
     returns
     enum-known-turn-2
@@ -94,7 +94,6 @@ find-obstacle-spec =
     sub-left
     add-growth
     add-steps
-    repeats-requires
     mul-left
     sub-left-2
     mul-growth

@@ -1,5 +1,5 @@
 -- By cases on the answer.
-use Rattle.comb_search.proofs.Turns.{grew-found, grew-refused}
+use Rattle.comb_search.proofs.Ways.{grew-found, grew-refused}
 use borrow.Author.Needs.{needs}
 use Rattle.comb_search.proofs.turn.grown_by.Statement.{statement}
 use Rattle.comb_search.proofs.turn.grown_by.Tie as tie

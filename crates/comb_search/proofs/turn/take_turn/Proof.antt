@@ -1,5 +1,5 @@
 -- Each way out of a turn is the definition's.
-use Rattle.comb_search.proofs.Turns.{turn-refused, turn-stops, turn-negative, turn-grown}
+use Rattle.comb_search.proofs.Ways.{turn-refused, turn-stops, turn-negative, turn-grown}
 use borrow.Author.Needs.{needs}
 use Rattle.comb_search.proofs.turn.take_turn.Statement.{statement}
 use Rattle.comb_search.proofs.turn.take_turn.Tie as tie

@@ -1,8 +1,8 @@
 -- Whole steps alone are taken together, so that what is left covers them.
 use Rattle.comb_search.proofs.Again.{repeats-none, repeats-some}
 use borrow.Author.Needs.{needs}
-use Rattle.comb_search.proofs.search.repeats.Statement.{statement}
-use Rattle.comb_search.proofs.search.repeats.Tie as tie
+use Rattle.comb_search.proofs.turns.repeats.Statement.{statement}
+use Rattle.comb_search.proofs.turns.repeats.Tie as tie
 
 is-same-requires : tie.Need-is-same-requires
 is-same-requires c κs = search (needs, repeats-none, repeats-some)

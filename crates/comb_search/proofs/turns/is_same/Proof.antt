@@ -1,11 +1,10 @@
 -- The arrays are compared entry by entry.
 use Rattle.comb_search.proofs.Again.{Agrees, agree}
 use Prim.Native.Nat.{_≤_, _-_}
-use mathlib.Core.Path.{_≡_}
 use lib.ListN.{length}
 use borrow.Author.Needs.{needs}
-use Rattle.comb_search.proofs.search.is_same.Statement.{statement}
-use Rattle.comb_search.proofs.search.is_same.Tie as tie
+use Rattle.comb_search.proofs.turns.is_same.Statement.{statement}
+use Rattle.comb_search.proofs.turns.is_same.Tie as tie
 
 abbrev Inv-loop : tie.InvT-loop
 Inv-loop a b i₀ i = (i ≤ length a) × Agrees a b i

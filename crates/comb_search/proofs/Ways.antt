@@ -1,7 +1,7 @@
 -- A turn's ways out, over variables: a finding leaves rs′ and stalled′ and is answered a; a Grow after it leaves rs″ and stalled″ and is
 -- answered b.
 use Prim.Native.Nat.{ℕ}
-use mathlib.Core.Path.{_≡_, refl, sym, ap, _∙_}
+use mathlib.Core.Path.{_≡_, sym, ap, _∙_}
 use mathlib.Core.Bool.{Bool}
 use mathlib.Core.List.{List}
 use Rattle.rules.specs.declared.graph.Graph.{Graph}
@@ -51,3 +51,7 @@ grew-found k b t e = rw e
 
 pub grew-refused : (k : ℕ) (b : Answer) (r : Refusal) → b ≡ A.Refused r → Stopped r ≡ grewBy k b
 grew-refused k b r e = rw e
+
+-- a turn that grew, by its length
+pub grew-as : {rs : List ℕ} {stalled : List Bool} (t : Turn) (n : ℕ) (x : Turned) → turnedAs rs stalled t ≡ x → t ≡ Grew n → turnedAs rs stalled (Grew n) ≡ x
+grew-as t n x e q = rw q at e
