@@ -1,4 +1,4 @@
-//! One-line wrong readings of the scope paper, to see whether sessions tell them apart.
+//! One-line wrong readings of document 01, to see whether sessions tell them apart.
 
 macro_rules! faults {
     ($($name:ident $reading:literal,)*) => {

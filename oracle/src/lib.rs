@@ -1,4 +1,4 @@
-//! The Rust of micro-blossom, a plain model of the scope paper, and a generator of sessions.
+//! The Rust of micro-blossom, a plain model of document 01, and a generator of sessions.
 
 pub mod batch;
 pub mod counts;

@@ -1,4 +1,4 @@
-//! The scope paper as plain code, simple and slow, with one of the wrong readings switched on if
+//! Document 01 as plain code, simple and slow, with one of the wrong readings switched on if
 //! asked. Every stage reads the registers before the instruction, unless it is given later ones.
 
 use crate::faults::Fault;

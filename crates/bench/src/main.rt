@@ -5,35 +5,22 @@ mod call;
 
 use crate::call::add;
 use crate::call::run_records;
-use comb_lent::counts::counts_of;
-use places::place_edges;
+use lay::lay;
+use records::value_at;
 use rules::graph::Graph;
 use rules::graph::Opening;
 use rules::graph::at_most;
 use rules::state::State;
 
 fn run_all(graph: Graph, first: State, records: &[u8], times: u32) -> u64 {
-    let wiring = place_edges(&graph.edges, graph.ne);
-    let counts = counts_of(graph.nv, wiring.ne, wiring.reach, graph.nu);
+    let board = lay(graph);
     let mut registers = first.registers;
     let mut weights = first.weights;
     let mut stalled = first.stalled;
     let mut sum = 0;
     let mut left = times;
     while 0 < left {
-        let more = run_records(
-            counts,
-            &graph.vertices,
-            &graph.edges,
-            &graph.units,
-            &wiring.degrees,
-            &wiring.places,
-            &graph.weights,
-            &mut weights,
-            &mut registers,
-            &mut stalled,
-            records,
-        );
+        let more = run_records(&board, &mut weights, &mut registers, &mut stalled, records);
         sum = add(sum, more);
         left -= 1;
     }
@@ -68,5 +55,5 @@ fn main() {
     io::read_full(libc::STDIN_FILENO, &mut times);
     let mut session = room();
     let n = io::read_full(libc::STDIN_FILENO, &mut session);
-    show(&session[0..n], call::value_at(&times, 0));
+    show(&session[0..n], value_at(&times, 0));
 }

@@ -1,12 +1,11 @@
 // The decoder: a graph, and a state by value that each call takes and gives back. Every value of either is answered.
 use comb_cycle::cycle::no_flags;
-use comb_lent::counts::counts_of;
 use comb_lent::instruct::instruct;
 use comb_lent::pairs;
 use comb_lent::reset::fresh_registers;
 use comb_lent::search;
 use comb_lent::word::carry_word;
-use places::place_edges;
+use lay::lay;
 use rules::finding::Listed;
 use rules::graph::Graph;
 use rules::graph::Opening;
@@ -34,11 +33,13 @@ pub struct Decoder {
 fn fresh_state(graph: Graph, maximum: u32) -> State
     ensures { λ r. ⌜ r ≡ Fresh.freshState graph maximum ⌝ }
 {
-    let registers = fresh_registers(&graph.vertices, graph.nv);
+    let board = lay(graph);
+    let registers = fresh_registers(&board);
+    let weights = graph.weights;
     let stalled = no_flags();
     State {
         registers,
-        weights: graph.weights,
+        weights,
         stalled,
         maximum,
     }
@@ -74,16 +75,11 @@ pub fn open(bytes: &[u8]) -> Decoder
 pub fn execute(graph: Graph, state: State, instruction: Instruction) -> Cycle
     ensures { λ r. ⌜ r ≡ Instruct.instruct graph state instruction ⌝ }
 {
-    let placed = place_edges(&graph.edges, graph.ne);
+    let board = lay(graph);
     let mut registers = state.registers;
     let mut stalled = state.stalled;
     let answer = instruct(
-        counts_of(graph.nv, placed.ne, placed.reach, graph.nu),
-        &graph.vertices,
-        &graph.edges,
-        &graph.units,
-        &placed.degrees,
-        &placed.places,
+        &board,
         &state.weights,
         &mut registers,
         &mut stalled,
@@ -104,23 +100,11 @@ pub fn execute(graph: Graph, state: State, instruction: Instruction) -> Cycle
 pub fn execute_word(graph: Graph, state: State, word: u32) -> WordCycle
     ensures { λ r. ⌜ r ≡ Instruct.wordRun graph state word ⌝ }
 {
-    let placed = place_edges(&graph.edges, graph.ne);
+    let board = lay(graph);
     let mut registers = state.registers;
     let mut weights = state.weights;
     let mut stalled = state.stalled;
-    let answer = carry_word(
-        counts_of(graph.nv, placed.ne, placed.reach, graph.nu),
-        &graph.vertices,
-        &graph.edges,
-        &graph.units,
-        &placed.degrees,
-        &placed.places,
-        &graph.weights,
-        &mut weights,
-        &mut registers,
-        &mut stalled,
-        word,
-    );
+    let answer = carry_word(&board, &mut weights, &mut registers, &mut stalled, word);
     let after = State {
         registers,
         weights,
@@ -137,16 +121,11 @@ pub fn execute_word(graph: Graph, state: State, word: u32) -> WordCycle
 pub fn search_on(graph: Graph, state: State) -> Searched
     ensures { λ r. ⌜ r ≡ Search.searchOn graph state ⌝ }
 {
-    let placed = place_edges(&graph.edges, graph.ne);
+    let board = lay(graph);
     let mut registers = state.registers;
     let mut stalled = state.stalled;
     let found = search::search_on(
-        counts_of(graph.nv, placed.ne, placed.reach, graph.nu),
-        &graph.vertices,
-        &graph.edges,
-        &graph.units,
-        &placed.degrees,
-        &placed.places,
+        &board,
         &state.weights,
         &mut registers,
         &mut stalled,
@@ -169,16 +148,11 @@ pub fn search_on(graph: Graph, state: State) -> Searched
 pub fn search_to(graph: Graph, state: State, maximum: u32) -> Searched
     ensures { λ r. ⌜ r ≡ Search.searchTo graph state maximum ⌝ }
 {
-    let placed = place_edges(&graph.edges, graph.ne);
+    let board = lay(graph);
     let mut registers = state.registers;
     let mut stalled = state.stalled;
     let found = search::search_to(
-        counts_of(graph.nv, placed.ne, placed.reach, graph.nu),
-        &graph.vertices,
-        &graph.edges,
-        &graph.units,
-        &placed.degrees,
-        &placed.places,
+        &board,
         &state.weights,
         &mut registers,
         &mut stalled,

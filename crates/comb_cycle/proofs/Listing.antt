@@ -12,7 +12,7 @@ use lib.ListN.{length, getD, set, take, length-set}
 use lib.Seq.{lt-length-set, take-suc, take-set-le, getD-set-same, getD-take}
 use borrow.Author.Tests.{ne-eqb}
 use Rattle.laws.specs.Choice.{pick}
-use Rattle.laws.specs.Fold.{upTo, bit, countTo}
+use Rattle.laws.specs.Fold.{upTo, bit, countTo, count-most}
 use Rattle.laws.specs.Listed.{indices}
 use Rattle.laws.specs.Lists.{indices-more, indices-skip, length-indices}
 use Rattle.laws.specs.Semilattice.{joined, joined-picked}
@@ -41,18 +41,9 @@ growth-none code h = rw (ne-eqb code 1 h) (by-shrink (eqb code 2))
 
 -- ---- listing
 
-bit-most : (b : Bool) → bit b ≤ 1
-bit-most true = omega arith
-bit-most false = omega arith
-
 module _ (p : ℕ → Bool) where
-  pub count-most : (n : ℕ) → countTo p n ≤ n
-  unfolding upTo
-  count-most zero = omega arith
-  count-most (suc n) = omega (arith, count-most n, bit-most (p n))
-
   module _ (xs : List ℕ) where
-    pub length-listed : (n : ℕ) → length (listed p xs n) ≡ length xs
+    length-listed : (n : ℕ) → length (listed p xs n) ≡ length xs
     unfolding listed upTo
     length-listed zero = refl
     length-listed (suc n) = length-set (listed p xs n) (countTo p n) n ∙ length-listed n
@@ -82,7 +73,7 @@ module _ (p : ℕ → Bool) where
     pub listed-are : (n : ℕ) → n ≤ length xs → take (countTo p n) (listed p xs n) ≡ indices p n
     unfolding listed upTo indices
     listed-are zero l = refl
-    listed-are (suc n) l = by-test n (omega (arith, count-most n)) (listed-are n (omega arith)) (p n) refl
+    listed-are (suc n) l = by-test n (omega (arith, count-most p n)) (listed-are n (omega arith)) (p n) refl
 
 -- ---- the turns of the walk
 

@@ -1,6 +1,6 @@
 -- Each turn of a walk takes in one report more; at its end a walk has what all edges report, and the strongest report is the answer. Over variables.
 use Prim.Native.Nat.{ℕ, _+_, _*_, _≤_, _<_, min}
-use mathlib.Core.Path.{_≡_, refl, sym, ap, _∙_}
+use mathlib.Core.Path.{_≡_, refl, sym, ap, _∙_, subst}
 use mathlib.Core.List.{List, [], _∷_}
 use native.Mathlib.Numerals.{add-one}
 use native.Mathlib.Omega.{arith}
@@ -49,17 +49,17 @@ module _ (start : Report) where
   places-begin f = sym (strengths .unit start)
 
   module _ (es fs ys ss ps : List ℕ) where
-    pub place-turn : (v k x a b : ℕ) → reportIn x ≡ reportFrom fs ys ss v (edgeIn (getD ps (v * 16 + k) 0)) (farIn (getD ps (v * 16 + k) 0)) → b ≡ min a x
+    pub place-turn : (v k x a b : ℕ) {w : ℕ} → reportIn x ≡ reportFrom fs ys ss v (edgeIn w) (farIn w) → w ≡ getD ps (v * 16 + k) 0 → b ≡ min a x
         → reportIn a ≡ stronger start (strongestOf (placeReport es fs ys ss ps v) k)
         → reportIn b ≡ stronger start (strongestOf (placeReport es fs ys ss ps v) (k + 1))
     unfolding placeReport
-    place-turn v k x a b q p h =
+    place-turn v k x a b q d p h =
         let f = placeReport es fs ys ss ps v in
-        rw (p, lesser-stronger a x, h) (strengths .assoc start (strongestOf f k) (reportIn x)) ∙ ap (stronger start) (one-more f k refl q refl)
+        rw (p, lesser-stronger a x, h) (strengths .assoc start (strongestOf f k) (reportIn x)) ∙ ap (stronger start) (one-more f k refl (q ∙ rw d) refl)
 
-    pub places-end : (v k ne : ℕ) {ds : List ℕ} {a : Report} → a ≡ stronger start (strongestOf (placeReport es fs ys ss ps v) k) → k ≤ getD ds v 0 → getD ds v 0 ≤ k
+    pub places-end : (v k ne : ℕ) {ds : List ℕ} {n : ℕ} {a : Report} → a ≡ stronger start (strongestOf (placeReport es fs ys ss ps v) k) → n ≡ getD ds v 0 → k ≤ n → n ≤ k
         → Wired es ne ps ds → v < 256 → a ≡ stronger start (strongestAt es fs ys ss ne v)
-    places-end v k ne {ds} h i j w u =
+    places-end v k ne {ds} h d i j w u =
         let z : k ≡ getD ds v 0 = omega arith in h ∙ rw z (ap (stronger start) (places-strongest es fs ys ss w v u))
 
 -- ---- over the vertices
@@ -71,9 +71,9 @@ module _ (es fs ys ss : List ℕ) (ne : ℕ) (xs : List ℕ) where
   vertex-turn i p h = one-more (heardFrom es fs ys ss ne xs) i p refl h
 
   pub vertices-end : (ts : List ℕ) (i n r : ℕ) {a : Report} → a ≡ strongestOf (heardFrom es fs ys ss ne xs) i → i ≤ n → n ≤ i → n ≡ countTo (growsAt ss) r
-      → xs ≡ listed (growsAt ss) ts r → r ≤ length ts → Ends es ne r → a ≡ strongest es fs ys ss ne
-  vertices-end ts i n r h k l many which inside ends =
-      let z : i ≡ n = omega arith in h ∙ rw (z, many, which) (listed-heard es fs ys ss ne ts r inside) ∙ heard-strongest es fs ys ss ne r ends
+      → xs ≡ listed (growsAt ss) ts r → r ≤ length ts → {m : ℕ} → r ≡ m → Ends es ne m → a ≡ strongest es fs ys ss ne
+  vertices-end ts i n r h k l many which inside same ends =
+      let z : i ≡ n = omega arith in h ∙ rw (z, many, which) (listed-heard es fs ys ss ne ts r inside) ∙ heard-strongest es fs ys ss ne r (subst (λ (q : ℕ). Ends es ne q) (sym same) ends)
 
 -- ---- what is answered
 
@@ -89,7 +89,7 @@ says-odd es fs ys ss Odd t = refl
 says-odd es fs ys ss (Conflict e) t = absurd (omega arith)
 says-odd es fs ys ss (Length l) t = absurd (omega arith)
 
-is-odd : (r : Response) → OneOf (1 ∷ []) (tagOf the-type r) → r ≡ OddRemaining
+pub is-odd : (r : Response) → OneOf (1 ∷ []) (tagOf the-type r) → r ≡ OddRemaining
 is-odd (Reports f) t = absurd (omega arith)
 is-odd OddRemaining t = refl
 

@@ -1,5 +1,5 @@
 -- Each stage's answer is document 01's, over variables: blank tables and counts that fit make the code's fold the definition's.
-use Prim.Native.Nat.{ℕ, _≤_, min}
+use Prim.Native.Nat.{ℕ, _≤_}
 use mathlib.Core.Path.{_≡_, refl, sym, ap, _∙_}
 use mathlib.Core.Bool.{Bool, false}
 use mathlib.Core.List.{List, [], _∷_}
@@ -15,7 +15,7 @@ use Rattle.rules.specs.Graph.{fits, edgesInUse}
 use Rattle.rules.specs.Units.{stalls, stalledVertices, stalledEdges}
 use Rattle.rules.specs.Execute.{execute, executeAt, executeRefusal, executed}
 use Rattle.rules.specs.Registers.{at, view}
-use Rattle.rules.specs.Round.{at-in-range, round}
+use Rattle.rules.proofs.Round.{at-in-range, round}
 use Rattle.rules.specs.Update.{updated}
 use Rattle.rules.specs.Reduce.{vertexFinding}
 use Rattle.rules.specs.declared.instruction.Instruction.{Instruction}
@@ -34,23 +34,18 @@ use Rattle.comb_vertex.specs.declared.execute.Execution.the-variants.{Done}
 use Rattle.comb_cycle.specs.Responses.{responded}
 use Rattle.comb_cycle.specs.Stages.{Ran, Beyond, Settles}
 
-small : (n m : ℕ) → n ≤ m → min n m ≡ n
-small n m l = omega arith
-
 module _ (es rs fs us : List ℕ) (ne nu : ℕ) (out blank : List Bool) where
-  pub vertices-made : out ≡ byUnits es rs fs ne (stalls es rs fs ne) us blank (min nu 2_048) → blank ≡ replicate 256 false → nu ≤ 2_048
+  pub vertices-made : out ≡ byUnits es rs fs ne (stalls es rs fs ne) us blank nu → blank ≡ replicate 256 false
       → out ≡ stalledVertices es rs fs ne us nu
-  vertices-made p b l = rw (p, b, small nu 2_048 l) (blank-vertices es rs fs ne us nu)
+  vertices-made p b = rw (p, b) (blank-vertices es rs fs ne us nu)
 
-  pub edges-made : out ≡ byUnits es rs fs ne stallsEdge us blank (min nu 2_048) → blank ≡ replicate 1_024 false → nu ≤ 2_048
+  pub edges-made : out ≡ byUnits es rs fs ne stallsEdge us blank nu → blank ≡ replicate 1_024 false
       → out ≡ stalledEdges es rs fs ne us nu
-  edges-made p b l = rw (p, b, small nu 2_048 l) (blank-edges es rs fs ne us nu)
+  edges-made p b = rw (p, b) (blank-edges es rs fs ne us nu)
 
-pub ran : (vs rs xs next : List ℕ) (stalled : List Bool) (i : Instruction) (nv : ℕ) (e : Execution) → e ≡ execution (executeRefusal vs rs stalled i (min nv 256))
-    → xs ≡ executedInto vs rs stalled i (min nv 256) next → next ≡ rs → nv ≤ 256 → Ran vs rs stalled i nv e xs
-ran vs rs xs next stalled i nv e p q n l =
-    let m = small nv 256 l in
-    record { answer = rw (← m) p; registers = λ h. rw (q, n, m) (executed-all vs rs stalled i nv h) }
+pub ran : (vs rs xs next : List ℕ) (stalled : List Bool) (i : Instruction) (nv : ℕ) (e : Execution) → e ≡ execution (executeRefusal vs rs stalled i nv)
+    → xs ≡ executedInto vs rs stalled i nv next → next ≡ rs → Ran vs rs stalled i nv e xs
+ran vs rs xs next stalled i nv e p q n = record { answer = p; registers = λ h. rw (q, n) (executed-all vs rs stalled i nv h) }
 
 -- FindObstacle leaves each vertex, and so the table
 find-ran : (vs rs : List ℕ) (stalled : List Bool) (nv : ℕ) → Ran vs rs stalled FindObstacle nv Done rs
@@ -78,13 +73,12 @@ unfolding edgesInUse
 edges-fit {es} w = omega (arith, w .used, w .small, leading-le (fits es) (w .limit))
 
 pub settles : (vs es fs xs rs ys ss ps ds : List ℕ) (stalled : List Bool) (ne nv : ℕ) (f : Finding) (r : Response)
-    → ys ≡ paint (min nv 256) (updatedWord es fs xs ps ds) rs → ss ≡ paint (min nv 256) (shadowWord vs es fs xs ps ds stalled) xs
-    → f ≡ vertexFinding ys (min nv 256) → r ≡ responded es fs ys ss ne f → nv ≤ 256 → Beyond nv rs xs → Wired es ne ps ds
+    → ys ≡ paint nv (updatedWord es fs xs ps ds) rs → ss ≡ paint nv (shadowWord vs es fs xs ps ds stalled) xs
+    → f ≡ vertexFinding ys nv → r ≡ responded es fs ys ss ne f → nv ≤ 256 → Beyond nv rs xs → Wired es ne ps ds
     → Settles vs es fs xs stalled ne nv r ys
 settles vs es fs xs rs ys ss ps ds stalled ne nv f r a b c d l q w =
-    let m = small nv 256 l in
-    let made : ys ≡ updated es fs xs ne nv = a ∙ rw m (q .same (updatedWord es fs xs ps ds) ∙ updated-by w fs xs nv l) in
+    let made : ys ≡ updated es fs xs ne nv = a ∙ q .same (updatedWord es fs xs ps ds) ∙ updated-by w fs xs nv l in
     record {
       registers = made;
-      answer = rw (d, c, m, b, m) (ap (λ (x : List ℕ). responded es fs ys x ne (vertexFinding ys nv)) (rw made (shadows-by w fs xs vs stalled nv l)));
+      answer = rw (d, c, b) (ap (λ (x : List ℕ). responded es fs ys x ne (vertexFinding ys nv)) (rw made (shadows-by w fs xs vs stalled nv l)));
     }

@@ -14,8 +14,12 @@ use Rattle.rules.specs.declared.state.Cycle.{Cycle}
 use Rattle.rules.specs.declared.finding.Answer.{Answer}
 use Rattle.rules.specs.declared.finding.Answer.the-variants.{Found, Refused}
 use Rattle.rules.specs.declared.finding.Finding.{Finding}
+use Rattle.rules.specs.declared.finding.Finding.the-variants.{GrowLength}
+use Rattle.rules.specs.declared.finding.Length.the-variants.{NoLimit}
 use Rattle.rules.specs.declared.instruction.Instruction.{Instruction}
 use Rattle.rules.specs.declared.refusal.Refusal.{Refusal}
+use Rattle.comb_vertex.specs.declared.execute.Execution.{Execution}
+use Rattle.comb_vertex.specs.declared.execute.Execution.the-variants as E
 
 abbrev pub stateOf : List ℕ → List ℕ → List Bool → ℕ → State
 stateOf rs ws stalled m = record { registers = rs; weights = ws; stalled = stalled; maximum = m }
@@ -28,6 +32,11 @@ pub record Cycled : Type 0 where
 
 abbrev pub cycledAs : List ℕ → List Bool → Answer → Cycled
 cycledAs rs stalled a = record { registers = rs; stalled = stalled; answer = a }
+
+-- what is answered after stage 3
+abbrev pub soFar : Execution → Answer
+soFar (E.Refused r) = Refused r
+soFar E.Done = Found (GrowLength NoLimit)
 
 abbrev pub ofCycle : Cycle → Cycled
 ofCycle c = cycledAs (c .state .registers) (c .state .stalled) (c .answer)

@@ -1,7 +1,7 @@
 pub mod Cycled
-pub mod Lent
 pub mod Listed
 pub mod Rank
 pub mod Responses
 pub mod Stages
 pub mod Strongest
+pub mod On

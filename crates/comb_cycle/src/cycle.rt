@@ -1,99 +1,78 @@
 // One instruction's cycle on lent tables: stages 1 to 8.
+use crate::respond::respond;
 use crate::stages;
+use board::Board;
+use comb_settle::settle;
 use comb_vertex::execute::Execution;
 use comb_vertex::no_vertices;
 use rules::finding::Answer;
+use rules::finding::Finding;
+use rules::finding::Length;
 use rules::finding::Response;
 use rules::instruction::Instruction;
 use rules::refusal::Refusal;
+use rules::tables::Registers;
+use rules::tables::Stalls;
+use rules::tables::Weights;
 ghost use mathlib.Core.Bool.{false};
 ghost use mathlib.Core.Path.{_≡_};
 ghost use lib.ListN.{replicate};
-ghost use Rattle.comb_cycle.specs.Cycled.{cycled, cycledAs};
-ghost use Rattle.comb_cycle.specs.Lent.{Ready, graphOf};
-
-// How many vertices, edges and units are in use, and how far the edges reach: none in use ends at `reach` or beyond.
-pub struct Counts {
-    pub nv: usize,
-    pub ne: usize,
-    pub nu: usize,
-    pub reach: usize,
-}
+ghost use Rattle.comb_cycle.specs.Cycled.{cycled, cycledAs, soFar};
+ghost use Rattle.board.specs.Board.{graphOn, Laid};
 
 // A pair list that is empty.
-pub fn no_flags() -> [bool; 1024]
+pub fn no_flags() -> Stalls
     ensures { λ r. ⌜ r ≡ replicate 1_024 false ⌝ }
 {
     [false; 1024]
 }
 
-// A cycle that is refused leaves registers and flags as they were.
+// What is answered after stage 3: its refusal, or that nothing bounds the length yet.
+fn so_far(execution: Execution) -> Answer
+    ensures { λ r. ⌜ r ≡ soFar execution ⌝ }
+{
+    match execution {
+        Execution::Refused(refusal) => Answer::Refused(refusal),
+        Execution::Done => Answer::Found(Finding::GrowLength(Length::NoLimit)),
+    }
+}
+
+// Units stall (stages 1 and 2), vertices execute (3) and settle, reporting (4 to 7), edges report, and all is reduced (7 and 8). A cycle that is
+// refused leaves registers and flags as they were.
 pub fn run_cycle<'a>(
-    counts: Counts,
-    vertices: &'a [u32; 256],
-    edges: &'a [u32; 1024],
-    units: &'a [u32; 2048],
-    degrees: &'a [u8; 256],
-    places: &'a [u32; 4096],
-    weights: &'a [u32; 1024],
-    registers: &mut [u64; 256],
-    stalled: &mut [bool; 1024],
+    board: &'a Board,
+    weights: &'a Weights,
+    registers: &mut Registers,
+    stalled: &mut Stalls,
     instruction: Instruction,
 ) -> Answer
-    requires { ⌜ Ready counts (now edges) (now places) (now degrees) ⌝ }
-    ensures { λ r. ⌜ cycledAs (now (registers .exit)) (now (stalled .exit)) r ≡ cycled (graphOf counts (now (vertices .entry)) (now (edges .entry)) (now (units .entry))) (now (registers .entry)) (now (weights .entry)) (now (stalled .entry)) instruction ⌝ }
+    requires { ⌜ Laid (now board) ⌝ }
+    ensures { λ r. ⌜ cycledAs (now (registers .exit)) (now (stalled .exit)) r ≡ cycled (graphOn (now (board .entry))) (now (registers .entry)) (now (weights .entry)) (now (stalled .entry)) instruction ⌝ }
 {
     let mut still = no_vertices();
     let mut held = no_flags();
-    stages::stall_units(
-        units,
-        counts.nu,
-        edges,
-        weights,
-        registers,
-        places,
-        degrees,
-        counts.ne,
-        &mut still,
-        &mut held,
-    );
+    stages::stall_units(board, weights, registers, &mut still, &mut held);
     let before = *registers;
     let mut executed = before;
-    let execution = stages::execute_all(
-        vertices,
+    let execution = stages::execute_all(board, &before, &still, instruction, &mut executed);
+    let Execution::Done = execution else {
+        return so_far(execution);
+    };
+    let mut shadows = executed;
+    let finding = settle(
+        board,
+        weights,
         &before,
+        &executed,
         &still,
-        instruction,
-        counts.nv,
-        &mut executed,
+        registers,
+        &mut shadows,
     );
-    match execution {
-        Execution::Refused(refusal) => Answer::Refused(refusal),
-        Execution::Done => {
-            let response = stages::settle(
-                vertices,
-                places,
-                degrees,
-                edges,
-                weights,
-                &before,
-                counts.ne,
-                &executed,
-                &still,
-                counts.nv,
-                counts.reach,
-                registers,
-            );
-            match response {
-                Response::OddRemaining => {
-                    *registers = before;
-                    Answer::Refused(Refusal::OddRemaining)
-                }
-                Response::Reports(finding) => {
-                    stages::keep_flags(counts.nu, &held, stalled);
-                    Answer::Found(finding)
-                }
-            }
-        }
-    }
+    let response = respond(board, weights, &before, registers, &shadows, finding);
+    let Response::Reports(found) = response else {
+        *registers = before;
+        return Answer::Refused(Refusal::OddRemaining);
+    };
+    stages::keep_flags(board::nu(board), &held, stalled);
+    Answer::Found(found)
 }

@@ -1,4 +1,5 @@
 // The vertices that show Grow, by number.
+use rules::tables::Registers;
 ghost use mathlib.Core.Path.{_≡_};
 ghost use Prim.Native.Nat.{_≤_};
 ghost use Rattle.laws.specs.Fold.{bit, countTo};
@@ -18,7 +19,7 @@ fn growth(shadow: u64) -> usize
 
 // How many there are, and, from the start of the lent table on, which. Each vertex is written behind those that grow, and stays where it grows
 // itself: no branch, since which do is hard to predict.
-pub(crate) fn list_growing(shadows: &[u64; 256], reach: usize, vertices: &mut [u8; 256]) -> usize
+pub(crate) fn list_growing(shadows: &Registers, reach: usize, vertices: &mut [u8; 256]) -> usize
     requires { ⌜ reach ≤ 256 ⌝ }
     ensures { λ r. ⌜ (r ≡ countTo (growsAt (now (shadows .entry))) reach) × (r ≤ reach) ⌝ }
     ensures { λ r. ⌜ now (vertices .exit) ≡ listed (growsAt (now (shadows .entry))) (now (vertices .entry)) reach ⌝ }

@@ -1,6 +1,7 @@
 // A report as one number, its rank: the lesser is the stronger, so that a walk over the edges carries and compares numbers alone.
 // specs/Rank.antt says which report a rank is.
 use crate::report::Report;
+use board::Board;
 use comb_edge::fetch_weight;
 use comb_edge::length::less;
 use comb_edge::respond::is_idle;
@@ -11,11 +12,13 @@ use rules::finding::Response;
 use rules::index::EdgeIndex;
 use rules::index::VertexIndex;
 use rules::registers::view;
+use rules::tables::Registers;
+use rules::tables::Weights;
 ghost use mathlib.Core.Path.{_≡_};
 ghost use Prim.Native.Nat.{_<_, min};
-ghost use Rattle.rules.specs.Fetch.{fetched};
 ghost use Rattle.rules.specs.Registers as Registers;
 ghost use Rattle.places.specs.Places.{edgeIn, farIn};
+ghost use Rattle.comb_cycle.specs.On.{reportFromOn};
 ghost use Rattle.comb_cycle.specs.Rank.{reportIn};
 ghost use Rattle.comb_cycle.specs.Strongest as Strongest;
 
@@ -45,7 +48,7 @@ fn rank_of(e: EdgeIndex, response: Response) -> u64
     }
 }
 
-fn grown_at(registers: &[u64; 256], v: u8) -> u32
+fn grown_at(registers: &Registers, v: u8) -> u32
     ensures { λ r. ⌜ (r ≡ Registers.at (now (registers .entry)) v .grown) × (r < 67_108_864) ⌝ }
 {
     view(registers[v as usize]).grown
@@ -53,16 +56,15 @@ fn grown_at(registers: &[u64; 256], v: u8) -> u32
 
 // The rank of what is heard at v of the edge at one of its places: what v shows and has grown is then looked up once for all of them.
 pub(crate) fn rank_at<'a>(
-    edges: &'a [u32; 1024],
-    weights: &'a [u32; 1024],
-    before: &'a [u64; 256],
-    ne: usize,
-    registers: &'a [u64; 256],
-    shadows: &'a [u64; 256],
+    board: &'a Board,
+    weights: &'a Weights,
+    before: &'a Registers,
+    registers: &'a Registers,
+    shadows: &'a Registers,
     v: u8,
     place: u32,
 ) -> u64
-    ensures { λ r. ⌜ reportIn r ≡ Strongest.reportFrom (fetched (now (edges .entry)) (now (before .entry)) (now (weights .entry)) ne) (now (registers .entry)) (now (shadows .entry)) v (edgeIn place) (farIn place) ⌝ }
+    ensures { λ r. ⌜ reportIn r ≡ reportFromOn (now (board .entry)) (now (before .entry)) (now (weights .entry)) (now (registers .entry)) (now (shadows .entry)) v (edgeIn place) (farIn place) ⌝ }
 {
     let e = (place % 1_024) as u16;
     let w = (place / 1_024 % 256) as u8;
@@ -72,7 +74,7 @@ pub(crate) fn rank_at<'a>(
         return rank_of_length(Length::NoLimit);
     }
     let remaining = less(
-        fetch_weight(e as usize, edges, weights, before, ne),
+        fetch_weight(e as usize, board, weights, before),
         grown_at(registers, v) + grown_at(registers, w),
     );
     let response = meeting(

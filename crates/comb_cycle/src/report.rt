@@ -1,4 +1,5 @@
 // What an edge reports, for choosing: the strongest report decides, in whatever order they come and however often one does.
+use board::Board;
 use comb_edge::fetch_weight;
 use comb_edge::is_idle;
 use comb_edge::meeting;
@@ -6,10 +7,11 @@ use rules::finding::Finding;
 use rules::finding::Length;
 use rules::finding::Response;
 use rules::index::EdgeIndex;
+use rules::tables::Registers;
+use rules::tables::Weights;
 ghost use mathlib.Core.Path.{_≡_};
 ghost use Prim.Native.Nat.{_<_};
-ghost use Rattle.rules.specs.Fetch.{fetched};
-ghost use Rattle.rules.specs.Respond.{edgeResponse};
+ghost use Rattle.comb_cycle.specs.On.{edgeResponseOn};
 
 pub enum Report {
     Odd,
@@ -17,26 +19,26 @@ pub enum Report {
     Length(Length),
 }
 
-// What edge e responds in stage 7. registers are those after stage 5; before are those before the instruction, by which the first ne edges have
-// their fetch weights.
+// What edge e responds in stage 7. registers are those after stage 5; before are those before the instruction, by which the edges have their fetch
+// weights.
 pub(crate) fn response<'a>(
-    edges: &'a [u32; 1024],
-    weights: &'a [u32; 1024],
-    before: &'a [u64; 256],
-    ne: usize,
-    registers: &'a [u64; 256],
-    shadows: &'a [u64; 256],
+    board: &'a Board,
+    weights: &'a Weights,
+    before: &'a Registers,
+    registers: &'a Registers,
+    shadows: &'a Registers,
     e: usize,
 ) -> Response
     requires { ⌜ e < 1_024 ⌝ }
-    ensures { λ r. ⌜ r ≡ edgeResponse (now (edges .entry)) (fetched (now (edges .entry)) (now (before .entry)) (now (weights .entry)) ne) (now (registers .entry)) (now (shadows .entry)) e ⌝ }
+    ensures { λ r. ⌜ r ≡ edgeResponseOn (now (board .entry)) (now (before .entry)) (now (weights .entry)) (now (registers .entry)) (now (shadows .entry)) e ⌝ }
 {
-    if is_idle(edges[e], shadows) {
+    let edge = board::edge(board, e);
+    if is_idle(edge, shadows) {
         return Response::Reports(Finding::GrowLength(Length::NoLimit));
     }
     meeting(
-        edges[e],
-        fetch_weight(e, edges, weights, before, ne),
+        edge,
+        fetch_weight(e, board, weights, before),
         registers,
         shadows,
     )

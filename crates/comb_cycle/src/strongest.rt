@@ -4,42 +4,40 @@ use crate::growing::list_growing;
 use crate::rank::NO_LIMIT;
 use crate::rank::lesser;
 use crate::rank::rank_at;
+use board::Board;
+use rules::tables::Registers;
+use rules::tables::Weights;
 ghost use mathlib.Core.Path.{_≡_};
-ghost use Rattle.rules.specs.Fetch.{fetched};
-ghost use Rattle.places.specs.Ends.{Ends};
-ghost use Rattle.places.specs.Wired.{Wired};
+ghost use Rattle.board.specs.Board.{Laid};
+ghost use Rattle.comb_cycle.specs.On.{strongestOn, strongestAtOn};
 ghost use Rattle.comb_cycle.specs.Rank.{reportIn};
 ghost use Rattle.comb_cycle.specs.Strongest as Strongest;
 
 // The rank of the strongest of a report and those of the edges of one vertex.
 fn strongest_at<'a>(
-    edges: &'a [u32; 1024],
-    weights: &'a [u32; 1024],
-    before: &'a [u64; 256],
-    ne: usize,
-    registers: &'a [u64; 256],
-    shadows: &'a [u64; 256],
-    places: &'a [u32; 4096],
-    degrees: &'a [u8; 256],
+    board: &'a Board,
+    weights: &'a Weights,
+    before: &'a Registers,
+    registers: &'a Registers,
+    shadows: &'a Registers,
     v: u8,
     start: u64,
 ) -> u64
-    requires { ⌜ Wired (now edges) ne (now places) (now degrees) ⌝ }
-    ensures { λ r. ⌜ reportIn r ≡ Strongest.stronger (reportIn start) (Strongest.strongestAt (now (edges .entry)) (fetched (now (edges .entry)) (now (before .entry)) (now (weights .entry)) ne) (now (registers .entry)) (now (shadows .entry)) ne v) ⌝ }
+    requires { ⌜ Laid (now board) ⌝ }
+    ensures { λ r. ⌜ reportIn r ≡ Strongest.stronger (reportIn start) (strongestAtOn (now (board .entry)) (now (before .entry)) (now (weights .entry)) (now (registers .entry)) (now (shadows .entry)) v) ⌝ }
 {
-    let n = degrees[v as usize];
+    let n = board::degree(board, v);
     let mut strongest = start;
-    let mut k: u8 = 0;
+    let mut k: u32 = 0;
     while k < n {
         let rank = rank_at(
-            edges,
+            board,
             weights,
             before,
-            ne,
             registers,
             shadows,
             v,
-            places[v as usize * 16 + k as usize],
+            board::place(board, v, k),
         );
         strongest = lesser(strongest, rank);
         k += 1;
@@ -48,33 +46,26 @@ fn strongest_at<'a>(
 }
 
 pub(crate) fn strongest<'a>(
-    edges: &'a [u32; 1024],
-    weights: &'a [u32; 1024],
-    before: &'a [u64; 256],
-    ne: usize,
-    registers: &'a [u64; 256],
-    shadows: &'a [u64; 256],
-    places: &'a [u32; 4096],
-    degrees: &'a [u8; 256],
-    reach: usize,
+    board: &'a Board,
+    weights: &'a Weights,
+    before: &'a Registers,
+    registers: &'a Registers,
+    shadows: &'a Registers,
 ) -> u64
-    requires { ⌜ Wired (now edges) ne (now places) (now degrees) × Ends (now edges) ne reach ⌝ }
-    ensures { λ r. ⌜ reportIn r ≡ Strongest.strongest (now (edges .entry)) (fetched (now (edges .entry)) (now (before .entry)) (now (weights .entry)) ne) (now (registers .entry)) (now (shadows .entry)) ne ⌝ }
+    requires { ⌜ Laid (now board) ⌝ }
+    ensures { λ r. ⌜ reportIn r ≡ strongestOn (now (board .entry)) (now (before .entry)) (now (weights .entry)) (now (registers .entry)) (now (shadows .entry)) ⌝ }
 {
     let mut vertices = [0u8; 256];
-    let n = list_growing(shadows, reach, &mut vertices);
+    let n = list_growing(shadows, board::reach(board), &mut vertices);
     let mut strongest = NO_LIMIT;
     let mut i = 0;
     while i < n {
         strongest = strongest_at(
-            edges,
+            board,
             weights,
             before,
-            ne,
             registers,
             shadows,
-            places,
-            degrees,
             vertices[i],
             strongest,
         );

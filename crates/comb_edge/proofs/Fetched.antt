@@ -19,13 +19,14 @@ unpainted f i (suc n) zero k h = refl
 unpainted f i (suc n) (suc m) zero h = let z : ⊥ = omega arith in absurd z
 unpainted f i (suc n) (suc m) (suc k) h = unpainted f (suc i) n m k (omega arith)
 
-module _ (es rs ws : List ℕ) (ne e : ℕ) {n : ℕ} (p : n ≡ min ne 1_024) where
-  pub fetched-in-use : {v : ℕ} → v ≡ weightBy (getD es e 0) rs (getD ws e 0) → e < n → v ≡ getD (fetched es rs ws ne) e 0
+-- the code has ne as n and the edge's word as w
+module _ (es rs ws : List ℕ) (m e : ℕ) {n : ℕ} (p : n ≡ min m 1_024) where
+  pub fetched-in-use : {v w : ℕ} → v ≡ weightBy w rs (getD ws e 0) → w ≡ getD es e 0 → e < n → v ≡ getD (fetched es rs ws (min m 1_024)) e 0
   unfolding fetched
-  fetched-in-use q l =
-      rw (← weight-by es e rs ws) at q
-      ∙ sym (getD-painted (fetchWeight es rs ws) ne (replicate 1_024 0) e 0 (omega arith) (rw (length-replicate 1_024) (omega arith)))
+  fetched-in-use h i l =
+      rw (i, ← weight-by es e rs ws) at h
+      ∙ sym (getD-painted (fetchWeight es rs ws) (min m 1_024) (replicate 1_024 0) e 0 (omega arith) (rw (length-replicate 1_024) (omega arith)))
 
-  pub fetched-beyond : n ≤ e → 0 ≡ getD (fetched es rs ws ne) e 0
+  pub fetched-beyond : n ≤ e → 0 ≡ getD (fetched es rs ws (min m 1_024)) e 0
   unfolding fetched paint
-  fetched-beyond l = sym (unpainted (fetchWeight es rs ws) 0 ne 1_024 e (omega arith))
+  fetched-beyond l = sym (unpainted (fetchWeight es rs ws) 0 (min m 1_024) 1_024 e (omega arith))

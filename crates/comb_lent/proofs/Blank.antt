@@ -22,7 +22,7 @@ module _ (vs : List ℕ) (v : ℕ) (layered : Bool) (t : layered ≡ hasLayer vs
   unfolding _or_
   fresh-marked marked e m p q = rw (q, p, m, ← t, e)
 
-pub fresh-all : (vs out none : List ℕ) (nv n v : ℕ) → none ≡ replicate 256 0 → n ≡ min nv 256 → v ≤ n → n ≤ v → out ≡ paint v (freshWord vs) none
-    → out ≡ freshRegisters vs (min nv 256)
+pub fresh-all : (vs out none : List ℕ) (m n v : ℕ) → none ≡ replicate 256 0 → n ≡ m → v ≤ n → n ≤ v → out ≡ paint v (freshWord vs) none
+    → out ≡ freshRegisters vs m
 unfolding freshRegisters
-fresh-all vs out none nv n v b m l k p = let e : v ≡ min nv 256 = omega arith in rw (← e, ← b) p
+fresh-all vs out none m n v b h l k p = let e : v ≡ m = omega arith in rw (← e, ← b) p

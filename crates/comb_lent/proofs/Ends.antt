@@ -3,13 +3,14 @@ use Prim.Native.Nat.{ℕ, suc, min, _≤_, _<_}
 use mathlib.Core.Path.{_≡_, refl, sym, ap, _∙_}
 use mathlib.Core.Bool.{Bool, true, false, not}
 use mathlib.Core.List.{List, []}
+use native.Mathlib.Omega.{arith}
 use borrow.Author.Tests.{lt-ltb, le-ltb}
 use lib.ListN.{replicate}
 use Rattle.laws.specs.Choice.{pick}
 use Rattle.rules.specs.Graph.{inUse}
 use Rattle.rules.specs.State.{freshRegisters, freshState, reset}
 use Rattle.rules.specs.Words.{inBounds, unpacked}
-use Rattle.rules.specs.Instruct.{step, concluded, settled, instruct, wordAnswer, wordCycle, carriedOut, wordRun}
+use Rattle.rules.specs.Instruct.{step, barred, concluded, settled, instruct, wordAnswer, wordCycle, carriedOut, wordRun}
 use Rattle.rules.specs.Search.{search, searchOn, searchTo}
 use Rattle.rules.specs.declared.graph.Graph.{Graph}
 use Rattle.rules.specs.declared.state.Cycle.{Cycle}
@@ -26,29 +27,28 @@ use Rattle.rules.specs.declared.instruction.Unpacked.the-variants as U
 use Rattle.rules.specs.declared.refusal.Refusal.{Refusal}
 use Rattle.rules.specs.declared.refusal.Refusal.the-variants.{OutOfBounds}
 use Rattle.comb_cycle.specs.Cycled.{Cycled, stateOf, cycledAs, ofCycle, cycled}
-use Rattle.comb_cycle.specs.Lent.{Ready, graphOf}
-use Rattle.comb_cycle.specs.declared.cycle.Counts.{Counts}
+use Rattle.board.specs.Board.{verticesOn, defaultsOn, nvOn, graphOn, Laid}
 use Rattle.comb_search.specs.Seek.{seek, searchedAs}
-use Rattle.comb_lent.specs.Whole.{graphIn, all-in-use}
+use Rattle.comb_lent.specs.Whole.{all-in-use}
 use Rattle.comb_lent.specs.Calls.{wordedAs, ofWord, instructed, worded, instruct-is}
 
-module _ (counts : Counts) (vs es us ps ds : List ℕ) (ready : Ready counts es ps ds) where
+module _ (b : List ℕ) (laid : Laid b) where
   abbrev g : Graph
-  g = graphOf counts vs es us
+  g = graphOn b
 
   all : inUse g ≡ g
-  all = all-in-use counts vs es us [] ready
+  all = all-in-use b laid
 
   -- ---- an instruction
 
-  module _ (rs ws : List ℕ) (stalled : List Bool) (i : Instruction) (b : Bool) (t : b ≡ inBounds i) where
-    pub ends-out : b ≡ false → cycledAs rs stalled (Refused OutOfBounds) ≡ instructed g rs ws stalled i
-    unfolding instructed instruct pick
+  module _ (rs ws : List ℕ) (stalled : List Bool) (i : Instruction) (h : Bool) (t : h ≡ inBounds i) where
+    pub ends-out : h ≡ false → cycledAs rs stalled (Refused OutOfBounds) ≡ instructed g rs ws stalled i
+    unfolding instructed instruct barred pick
     ends-out e = rw (← t, e)
 
-    pub ends-in : (rs′ : List ℕ) (stalled′ : List Bool) (a : Answer) → b ≡ true → cycledAs rs′ stalled′ a ≡ cycled g rs ws stalled i → cycledAs rs′ stalled′ a ≡ instructed g rs ws stalled i
-    unfolding instructed instruct pick cycled
-    ends-in rs′ stalled′ a e h = rw (← t, e, all) h
+    pub ends-in : (rs′ : List ℕ) (stalled′ : List Bool) (a : Answer) → h ≡ true → cycledAs rs′ stalled′ a ≡ cycled g rs ws stalled i → cycledAs rs′ stalled′ a ≡ instructed g rs ws stalled i
+    unfolding instructed instruct barred pick cycled
+    ends-in rs′ stalled′ a e k = rw (← t, e, all) k
 
   -- ---- a search
 
@@ -75,9 +75,9 @@ word-found a f e = rw e
 pub word-refused : (a : Answer) (r : Refusal) → a ≡ Refused r → W.Refused r ≡ wordAnswer a
 word-refused a r e = rw e
 
-module _ (counts : Counts) (vs es us ds : List ℕ) (rs ws : List ℕ) (stalled : List Bool) (w : ℕ) (u : Unpacked) (t : u ≡ unpacked w) where
+module _ (b rs ws : List ℕ) (stalled : List Bool) (w : ℕ) (u : Unpacked) (t : u ≡ unpacked w) where
   abbrev whole : Graph
-  whole = graphIn counts vs es us ds
+  whole = graphOn b
 
   carried-as : (v : Unpacked) → u ≡ v → worded whole rs ws stalled w ≡ ofWord (carriedOut whole (stateOf rs ws stalled 0) v)
   unfolding worded wordRun
@@ -86,19 +86,15 @@ module _ (counts : Counts) (vs es us ds : List ℕ) (rs ws : List ℕ) (stalled 
   pub ends-refused : (r : Refusal) → u ≡ U.Refused r → wordedAs rs ws stalled (W.Refused r) ≡ worded whole rs ws stalled w
   ends-refused r e = sym (carried-as (U.Refused r) e)
 
-  pub ends-reset : (fresh : List ℕ) (none : List Bool) → u ≡ U.Reset → fresh ≡ freshRegisters vs (min (counts .nv) 256) → none ≡ replicate 1_024 false
+  pub ends-reset : (fresh ds : List ℕ) (none : List Bool) → u ≡ U.Reset → ds ≡ defaultsOn b → fresh ≡ freshRegisters (verticesOn b) (nvOn b) → none ≡ replicate 1_024 false
       → wordedAs fresh ds none W.Reset ≡ worded whole rs ws stalled w
   unfolding reset freshState inUse
-  ends-reset fresh none e p q = rw (p, q) (sym (carried-as U.Reset e))
+  ends-reset fresh ds none e d p q = let n : min (nvOn b) 256 ≡ nvOn b = omega arith in rw (d, p, q) (sym (carried-as U.Reset e ∙ rw n))
 
   module _ (i : Instruction) (e : u ≡ U.Says i) (rs′ : List ℕ) (stalled′ : List Bool) (a : Answer)
-      (h : cycledAs rs′ stalled′ a ≡ instructed (graphOf counts vs es us) rs ws stalled i) where
-    same : instructed (graphOf counts vs es us) rs ws stalled i ≡ instructed whole rs ws stalled i
-    unfolding instructed instruct inUse step settled concluded
-    same = refl
-
+      (h : cycledAs rs′ stalled′ a ≡ instructed whole rs ws stalled i) where
     done : instruct whole (stateOf rs ws stalled 0) i ≡ record { state = stateOf rs′ ws stalled′ 0; answer = a }
-    done = instruct-is whole rs ws stalled 0 i rs′ stalled′ a (h ∙ same)
+    done = instruct-is whole rs ws stalled 0 i rs′ stalled′ a h
 
     pub ends-says : (x : WordAnswer) → x ≡ wordAnswer a → wordedAs rs′ ws stalled′ x ≡ worded whole rs ws stalled w
     ends-says x p = rw p (ap (λ (c : Cycle). ofWord (wordCycle c)) (sym done) ∙ sym (carried-as (U.Says i) e))

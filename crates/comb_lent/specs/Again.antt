@@ -9,7 +9,7 @@ use Rattle.rules.specs.State.{withMaximum, freshState, reset}
 use Rattle.rules.specs.Instruct.{instruct, carriedOut, wordRun}
 use Rattle.rules.specs.Search.{search, searchOn, searchTo}
 use Rattle.rules.specs.Words.{unpacked}
-use Rattle.rules.specs.Run.{Call, execute, word, clear, seek, seekOn, list, call}
+use Rattle.rules.specs.Run.{Look, list, Call, execute, word, clear, seek, seekOn, look, looked, call}
 use Rattle.rules.specs.declared.graph.Graph.{Graph}
 use Rattle.rules.specs.declared.state.State.{State}
 use Rattle.rules.specs.declared.instruction.Instruction.{Instruction}
@@ -55,6 +55,9 @@ pub search-again : (g : Graph) (s : State) → searchOn (inUse g) s ≡ searchOn
 unfolding searchOn search
 search-again g s = rw (in-use-again g)
 
+looked-again : (g : Graph) (s : State) (l : Look) → looked (inUse g) s l ≡ looked g s l
+looked-again g s (list room) = refl
+
 pub call-again : (g : Graph) (s : State) (c : Call) → call (inUse g) s c ≡ call g s c
 unfolding call searchTo
 call-again g s (execute i) = rw (instruct-again g s i)
@@ -62,4 +65,4 @@ call-again g s (word w) = rw (word-again g s w)
 call-again g s clear = rw (reset-again g s)
 call-again g s (seek m) = rw (search-again g (withMaximum m s))
 call-again g s seekOn = rw (search-again g s)
-call-again g s (list n) = refl
+call-again g s (look l) = rw (looked-again g s l)

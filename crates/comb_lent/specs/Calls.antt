@@ -1,13 +1,13 @@
 -- An instruction and a word on lent tables. The maximum plays no part in them, and stays.
 use Prim.Native.Nat.{ℕ}
 use mathlib.Core.Path.{_≡_, refl, sym, ap, _∙_}
-use mathlib.Core.Bool.{Bool, true, false}
+use mathlib.Core.Bool.{Bool}
 use mathlib.Core.List.{List}
-use Rattle.laws.specs.Choice.{pick}
+use mathlib.Core.Option.{Option, none, some}
 use Rattle.rules.specs.Graph.{inUse}
 use Rattle.rules.specs.State.{reset, freshState}
-use Rattle.rules.specs.Words.{inBounds, unpacked}
-use Rattle.rules.specs.Instruct.{refused, step, instruct, wordAnswer, wordCycle, carriedOut, wordRun}
+use Rattle.rules.specs.Words.{unpacked}
+use Rattle.rules.specs.Instruct.{barred, unlessBarred, instruct, wordAnswer, wordCycle, carriedOut, wordRun}
 use Rattle.rules.specs.declared.graph.Graph.{Graph}
 use Rattle.rules.specs.declared.state.Cycle.{Cycle}
 use Rattle.rules.specs.declared.state.WordCycle.{WordCycle}
@@ -16,7 +16,7 @@ use Rattle.rules.specs.declared.finding.WordAnswer.{WordAnswer}
 use Rattle.rules.specs.declared.instruction.Instruction.{Instruction}
 use Rattle.rules.specs.declared.instruction.Unpacked.{Unpacked}
 use Rattle.rules.specs.declared.instruction.Unpacked.the-variants as U
-use Rattle.rules.specs.declared.refusal.Refusal.the-variants.{OutOfBounds}
+use Rattle.rules.specs.declared.refusal.Refusal.{Refusal}
 use Rattle.comb_cycle.specs.Cycled.{Cycled, stateOf, cycledAs, ofCycle, cycled, step-cycled}
 
 -- what a word leaves and answers
@@ -45,18 +45,17 @@ module _ (g : Graph) (rs ws : List ℕ) (stalled : List Bool) where
     abbrev whole : Cycled → Cycle
     whole c = record { state = stateOf (c .registers) ws (c .stalled) m; answer = c .answer }
 
-    by-bounds : (i : Instruction) (b : Bool)
-        → pick b (step (inUse g) (stateOf rs ws stalled m) i) (refused (stateOf rs ws stalled m) OutOfBounds)
-        ≡ whole (ofCycle (pick b (step (inUse g) (stateOf rs ws stalled 0) i) (refused (stateOf rs ws stalled 0) OutOfBounds)))
-    unfolding pick cycled
-    by-bounds i true =
+    by-bar : (i : Instruction) (o : Option Refusal)
+        → unlessBarred (inUse g) (stateOf rs ws stalled m) i o ≡ whole (ofCycle (unlessBarred (inUse g) (stateOf rs ws stalled 0) i o))
+    unfolding cycled
+    by-bar i none =
         let c = cycled (inUse g) rs ws stalled i in
         step-cycled (inUse g) rs ws stalled m i (c .registers) (c .stalled) (c .answer) refl
-    by-bounds i false = refl
+    by-bar i (some r) = refl
 
     instruct-whole : (i : Instruction) → instruct g (stateOf rs ws stalled m) i ≡ whole (instructed i)
     unfolding instruct instructed
-    instruct-whole i = by-bounds i (inBounds i)
+    instruct-whole i = by-bar i (barred (inUse g) i)
 
   weights-stay : (i : Instruction) → ws ≡ instruct g (stateOf rs ws stalled 0) i .state .weights
   weights-stay i = ap (λ (c : Cycle). c .state .weights) (sym (instruct-whole 0 i))

@@ -2,5 +2,4 @@ pub mod Whole
 pub mod Calls
 pub mod Fresh
 pub mod Again
-pub mod Tables
 pub mod Raised

@@ -1,6 +1,5 @@
 // The decoder's calls on lent tables: an instruction, a word, the searches, the pair list.
 mod bounds;
-pub mod counts;
 pub mod instruct;
 pub mod pairs;
 pub mod reset;

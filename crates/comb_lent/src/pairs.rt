@@ -2,6 +2,7 @@
 use raised::count;
 use rules::finding::Listed;
 use rules::refusal::Refusal;
+use rules::tables::Stalls;
 ghost use mathlib.Core.Path.{_≡_};
 ghost use Prim.Native.Nat.{_+_, _≤_, _<_};
 ghost use lib.ListN.{length};
@@ -38,7 +39,7 @@ fn put_pairs(buffer: &mut [u16], stalled: &[bool], n: usize)
 }
 
 // "19: pair list longer than the buffer lent; buffer and decoder unchanged"
-pub fn list_pairs(stalled: &[bool; 1024], buffer: &mut [u16]) -> Listed
+pub fn list_pairs(stalled: &Stalls, buffer: &mut [u16]) -> Listed
     ensures { λ r. ⌜ r ≡ Pairs.listed (withPairs (now (stalled .entry))) (length (now (buffer .entry))) ⌝ }
     ensures { λ r. ⌜ now (buffer .exit) ≡ Pairs.buffered (withPairs (now (stalled .entry))) (now (buffer .entry)) ⌝ }
 {

@@ -1,17 +1,19 @@
 // A word on lent tables: 12, a reset, or the instruction that it carries.
 use crate::instruct::instruct;
 use crate::reset::fresh_registers;
-use comb_cycle::cycle::Counts;
+use board::Board;
 use comb_cycle::cycle::no_flags;
 use instruction::unpack;
 use rules::finding::Answer;
 use rules::finding::WordAnswer;
 use rules::instruction::Unpacked;
+use rules::tables::Registers;
+use rules::tables::Stalls;
+use rules::tables::Weights;
 ghost use mathlib.Core.Path.{_≡_};
-ghost use Rattle.comb_cycle.specs.Lent.{Ready};
+ghost use Rattle.board.specs.Board.{graphOn, Laid};
 ghost use Rattle.rules.specs.Instruct as Instruct;
 ghost use Rattle.comb_lent.specs.Calls.{wordedAs, worded};
-ghost use Rattle.comb_lent.specs.Whole.{graphIn};
 
 fn word_answer(answer: Answer) -> WordAnswer
     ensures { λ r. ⌜ r ≡ Instruct.wordAnswer answer ⌝ }
@@ -22,38 +24,26 @@ fn word_answer(answer: Answer) -> WordAnswer
     }
 }
 
-// defaults are the weights that a reset leaves.
 pub fn carry_word<'a>(
-    counts: Counts,
-    vertices: &'a [u32; 256],
-    edges: &'a [u32; 1024],
-    units: &'a [u32; 2048],
-    degrees: &'a [u8; 256],
-    places: &'a [u32; 4096],
-    defaults: &'a [u32; 1024],
-    weights: &mut [u32; 1024],
-    registers: &mut [u64; 256],
-    stalled: &mut [bool; 1024],
+    board: &'a Board,
+    weights: &mut Weights,
+    registers: &mut Registers,
+    stalled: &mut Stalls,
     word: u32,
 ) -> WordAnswer
-    requires { ⌜ Ready counts (now edges) (now places) (now degrees) ⌝ }
-    ensures { λ r. ⌜ wordedAs (now (registers .exit)) (now (weights .exit)) (now (stalled .exit)) r ≡ worded (graphIn counts (now (vertices .entry)) (now (edges .entry)) (now (units .entry)) (now (defaults .entry))) (now (registers .entry)) (now (weights .entry)) (now (stalled .entry)) word ⌝ }
+    requires { ⌜ Laid (now board) ⌝ }
+    ensures { λ r. ⌜ wordedAs (now (registers .exit)) (now (weights .exit)) (now (stalled .exit)) r ≡ worded (graphOn (now (board .entry))) (now (registers .entry)) (now (weights .entry)) (now (stalled .entry)) word ⌝ }
 {
     match unpack(word) {
         Unpacked::Refused(refusal) => WordAnswer::Refused(refusal),
         Unpacked::Reset => {
-            *weights = *defaults;
-            *registers = fresh_registers(vertices, counts.nv);
+            *weights = board::defaults(board);
+            *registers = fresh_registers(board);
             *stalled = no_flags();
             WordAnswer::Reset
         }
         Unpacked::Says(instruction) => word_answer(instruct(
-            counts,
-            vertices,
-            edges,
-            units,
-            degrees,
-            places,
+            board,
             weights,
             registers,
             stalled,

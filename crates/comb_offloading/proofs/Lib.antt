@@ -1,4 +1,5 @@
 pub mod Row
+pub mod Raised
 pub mod Own
 pub mod Ends
 pub mod Place

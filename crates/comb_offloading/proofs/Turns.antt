@@ -34,10 +34,10 @@ module _ (es rs fs : List ℕ) (ne : ℕ) (f : OffloadingType → List Bool → 
     unfolding byUnits upTo
     units-start = refl
 
-    pub units-step : (k : ℕ) {u : OffloadingType} {t s : List Bool} → s ≡ byUnit es rs fs ne f u t → u ≡ unitOf (getD us k 0) → t ≡ byUnits es rs fs ne f us flags k
+    pub units-step : (k : ℕ) {w : ℕ} {u : OffloadingType} {t s : List Bool} → s ≡ byUnit es rs fs ne f u t → u ≡ unitOf w → w ≡ getD us k 0 → t ≡ byUnits es rs fs ne f us flags k
         → s ≡ byUnits es rs fs ne f us flags (k + 1)
     unfolding byUnits upTo
-    units-step k p q h = rw (add-one k, ← q, ← h) p
+    units-step k p q r h = rw (add-one k, ← r, ← q, ← h) p
 
     pub units-end : (k m : ℕ) {n : ℕ} {s : List Bool} → s ≡ byUnits es rs fs ne f us flags k → k ≤ n → n ≤ k → n ≡ m → s ≡ byUnits es rs fs ne f us flags m
     units-end k m p i j e = let z : k ≡ m = omega arith in rw (← z) p

@@ -26,21 +26,22 @@ module _ (es rs fs : List ℕ) (e ne : ℕ) (ps : List ℕ) (v : ℕ) where
   unfolding allPermit upTo
   permit-start = refl
 
-  module _ (k : ℕ) {b : Bool} (t : b ≡ permitsBy es rs fs e ne (edgeIn (getD ps (v * 16 + k) 0)) (farIn (getD ps (v * 16 + k) 0))) where
+  -- w is the word at place k
+  module _ (k : ℕ) {w : ℕ} {b : Bool} (t : b ≡ permitsBy es rs fs e ne (edgeIn w) (farIn w)) (p : w ≡ getD ps (v * 16 + k) 0) where
     pub permit-pass : not b ≡ false → allPermit es rs fs e ps v ne k ≡ true → allPermit es rs fs e ps v ne (k + 1) ≡ true
     unfolding allPermit upTo _and_
-    permit-pass h a = rw (add-one k, a, ← t, not-false b h)
+    permit-pass h a = rw (add-one k, a, ← p, ← t, not-false b h)
 
     stopped : (n : ℕ) → not b ≡ true → k < n → allPermit es rs fs e ps v ne n ≡ false
     unfolding allPermit
-    stopped n h l = all-stop (λ j. permitsBy es rs fs e ne (edgeIn (getD ps (v * 16 + j) 0)) (farIn (getD ps (v * 16 + j) 0))) k n l (sym t ∙ not-true b h)
+    stopped n h l = all-stop (λ j. permitsBy es rs fs e ne (edgeIn (getD ps (v * 16 + j) 0)) (farIn (getD ps (v * 16 + j) 0))) k n l (rw (← p, ← t) (not-true b h))
 
-    pub permit-stop : {ds : List ℕ} → not b ≡ true → k < getD ds v 0 → Wired es ne ps ds → v < 256 → false ≡ othersPermit es rs fs ne e v
-    permit-stop {ds} h l w u = sym (stopped (getD ds v 0) h l) ∙ all-permit es rs fs e w v u
+    pub permit-stop : {ds : List ℕ} {n : ℕ} → not b ≡ true → n ≡ getD ds v 0 → k < n → Wired es ne ps ds → v < 256 → false ≡ othersPermit es rs fs ne e v
+    permit-stop {ds} h d l i u = sym (stopped (getD ds v 0) h (omega arith)) ∙ all-permit es rs fs e i v u
 
-  pub permit-end : (k : ℕ) {ds : List ℕ} → allPermit es rs fs e ps v ne k ≡ true → k ≤ getD ds v 0 → getD ds v 0 ≤ k → Wired es ne ps ds → v < 256
+  pub permit-end : (k : ℕ) {ds : List ℕ} {n : ℕ} → allPermit es rs fs e ps v ne k ≡ true → n ≡ getD ds v 0 → k ≤ n → n ≤ k → Wired es ne ps ds → v < 256
       → true ≡ othersPermit es rs fs ne e v
-  permit-end k {ds} a i j w u = let z : k ≡ getD ds v 0 = omega arith in sym a ∙ rw z (all-permit es rs fs e w v u)
+  permit-end k {ds} a d i j w u = let z : k ≡ getD ds v 0 = omega arith in sym a ∙ rw z (all-permit es rs fs e w v u)
 
 pub ruleset permitting = (permit-start, permit-pass, permit-stop, permit-end)
 
@@ -49,14 +50,14 @@ module _ (es rs fs : List ℕ) (e : ℕ) (ps : List ℕ) (v : ℕ) (flags : List
   unfolding stallsAlong upTo
   stall-start = refl
 
-  pub stall-step : (k : ℕ) {t s : List Bool} → s ≡ stallsBy es rs fs e (edgeIn (getD ps (v * 16 + k) 0)) (farIn (getD ps (v * 16 + k) 0)) t
+  pub stall-step : (k : ℕ) {w : ℕ} {t s : List Bool} → s ≡ stallsBy es rs fs e (edgeIn w) (farIn w) t → w ≡ getD ps (v * 16 + k) 0
       → t ≡ stallsAlong es rs fs e ps v flags k → s ≡ stallsAlong es rs fs e ps v flags (k + 1)
   unfolding stallsAlong upTo
-  stall-step k p q = rw (add-one k, ← q) p
+  stall-step k p r q = rw (add-one k, ← q, ← r) p
 
-  pub stall-end : (k ne : ℕ) (start : List Bool) {ds : List ℕ} {t : List Bool} → t ≡ stallsAlong es rs fs e ps v flags k → flags ≡ raise start v
-      → k ≤ getD ds v 0 → getD ds v 0 ≤ k → Wired es ne ps ds → v < 256 → t ≡ stallsAround es rs fs ne e v start
+  pub stall-end : (k ne : ℕ) (start : List Bool) {ds : List ℕ} {n : ℕ} {t : List Bool} → t ≡ stallsAlong es rs fs e ps v flags k → flags ≡ raise start v
+      → n ≡ getD ds v 0 → k ≤ n → n ≤ k → Wired es ne ps ds → v < 256 → t ≡ stallsAround es rs fs ne e v start
   unfolding stallsAround
-  stall-end k ne start {ds} p q i j w u = let z : k ≡ getD ds v 0 = omega arith in p ∙ rw (z, stalls-along es rs fs e w v u flags, q)
+  stall-end k ne start {ds} p q d i j w u = let z : k ≡ getD ds v 0 = omega arith in p ∙ rw (z, stalls-along es rs fs e w v u flags, q)
 
 pub ruleset stalling = (stall-start, stall-step, stall-end)

@@ -5,47 +5,48 @@ use crate::edge::right_of;
 use crate::vertex::is_eager;
 use crate::vertex::is_unique_tight;
 use crate::vertex::raise;
+use board::Board;
 use rules::index::EdgeIndex;
+use rules::tables::Registers;
+use rules::tables::VertexFlags;
+use rules::tables::Weights;
 ghost use mathlib.Core.Path.{_≡_};
 ghost use Prim.Native.Nat.{_<_};
-ghost use Rattle.rules.specs.Fetch.{fetched};
 ghost use Rattle.rules.specs.Graph.{leftOf, rightOf};
 ghost use Rattle.rules.specs.Units as Units;
-ghost use Rattle.places.specs.Wired.{Wired};
+ghost use Rattle.board.specs.Board.{edgesOn, Laid};
+ghost use Rattle.comb_offloading.specs.On.{defectMatchOn};
 
 pub(crate) fn defect_match<'a>(
     edge: EdgeIndex,
-    edges: &'a [u32; 1024],
-    weights: &'a [u32; 1024],
-    registers: &'a [u64; 256],
-    places: &'a [u32; 4096],
-    degrees: &'a [u8; 256],
-    ne: usize,
+    board: &'a Board,
+    weights: &'a Weights,
+    registers: &'a Registers,
 ) -> bool
-    requires { ⌜ (edge .0 < 1_024) × Wired (now edges) ne (now places) (now degrees) ⌝ }
-    ensures { λ r. ⌜ r ≡ Units.defectMatch (now (edges .entry)) (now (registers .entry)) (fetched (now (edges .entry)) (now (registers .entry)) (now (weights .entry)) ne) ne (edge .0) ⌝ }
+    requires { ⌜ (edge .0 < 1_024) × Laid (now board) ⌝ }
+    ensures { λ r. ⌜ r ≡ defectMatchOn (now (board .entry)) (now (registers .entry)) (now (weights .entry)) (edge .0) ⌝ }
 {
-    let left = left_of(edge, edges);
-    let right = right_of(edge, edges);
+    let left = left_of(edge, board);
+    let right = right_of(edge, board);
     if !is_eager(left, registers) {
         return false;
     }
     if !is_eager(right, registers) {
         return false;
     }
-    if !is_tight(edge, edges, weights, registers, ne) {
+    if !is_tight(edge, board, weights, registers) {
         return false;
     }
-    if !is_unique_tight(left, edges, weights, registers, places, degrees, ne) {
+    if !is_unique_tight(left, board, weights, registers) {
         return false;
     }
-    is_unique_tight(right, edges, weights, registers, places, degrees, ne)
+    is_unique_tight(right, board, weights, registers)
 }
 
-pub(crate) fn stall_ends(edge: EdgeIndex, edges: &[u32; 1024], vertices: &mut [bool; 256])
+pub(crate) fn stall_ends(edge: EdgeIndex, board: &Board, vertices: &mut VertexFlags)
     requires { ⌜ edge .0 < 1_024 ⌝ }
-    ensures { λ r. ⌜ now (vertices .exit) ≡ Units.raise (Units.raise (now (vertices .entry)) (leftOf (now (edges .entry)) (edge .0))) (rightOf (now (edges .entry)) (edge .0)) ⌝ }
+    ensures { λ r. ⌜ now (vertices .exit) ≡ Units.raise (Units.raise (now (vertices .entry)) (leftOf (edgesOn (now (board .entry))) (edge .0))) (rightOf (edgesOn (now (board .entry))) (edge .0)) ⌝ }
 {
-    raise(left_of(edge, edges), vertices);
-    raise(right_of(edge, edges), vertices);
+    raise(left_of(edge, board), vertices);
+    raise(right_of(edge, board), vertices);
 }

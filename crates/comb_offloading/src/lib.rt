@@ -18,37 +18,34 @@ use crate::stall_around::stall_around;
 use crate::unit::edge_of;
 use crate::unit::unit_of;
 use crate::virtual_match::virtual_match;
+use board::Board;
 use rules::graph::OffloadingType;
-use rules::graph::at_most;
+use rules::tables::Registers;
+use rules::tables::Stalls;
+use rules::tables::VertexFlags;
+use rules::tables::Weights;
 ghost use mathlib.Core.Path.{_≡_};
-ghost use Prim.Native.Nat.{min};
-ghost use Rattle.rules.specs.Fetch.{fetched};
-ghost use Rattle.rules.specs.Units as Units;
-ghost use Rattle.places.specs.Wired.{Wired};
 ghost use Rattle.comb_offloading.specs.Unit.{Within};
-ghost use Rattle.comb_offloading.specs.Offload.{stallsEdge, byUnit, byUnits};
+ghost use Rattle.comb_offloading.specs.Offload.{stallsEdge};
+ghost use Rattle.board.specs.Board.{Laid};
+ghost use Rattle.comb_offloading.specs.On.{byUnitOn, byUnitsOn, holdsOn, stallsOn};
 
 fn holds<'a>(
     unit: OffloadingType,
-    edges: &'a [u32; 1024],
-    weights: &'a [u32; 1024],
-    registers: &'a [u64; 256],
-    places: &'a [u32; 4096],
-    degrees: &'a [u8; 256],
-    ne: usize,
+    board: &'a Board,
+    weights: &'a Weights,
+    registers: &'a Registers,
 ) -> bool
-    requires { ⌜ Within unit × Wired (now edges) ne (now places) (now degrees) ⌝ }
-    ensures { λ r. ⌜ r ≡ Units.holds (now (edges .entry)) (now (registers .entry)) (fetched (now (edges .entry)) (now (registers .entry)) (now (weights .entry)) ne) ne unit ⌝ }
+    requires { ⌜ Within unit × Laid (now board) ⌝ }
+    ensures { λ r. ⌜ r ≡ holdsOn (now (board .entry)) (now (registers .entry)) (now (weights .entry)) unit ⌝ }
 {
     match unit {
-        OffloadingType::DefectMatch { edge } => {
-            defect_match(edge, edges, weights, registers, places, degrees, ne)
-        }
+        OffloadingType::DefectMatch { edge } => { defect_match(edge, board, weights, registers) }
         OffloadingType::VirtualMatch { edge, vertex } => {
-            virtual_match(edge, vertex, edges, weights, registers, places, degrees, ne)
+            virtual_match(edge, vertex, board, weights, registers)
         }
         OffloadingType::FusionMatch { edge, vertex } => {
-            fusion_match(edge, vertex, edges, weights, registers, places, degrees, ne)
+            fusion_match(edge, vertex, board, weights, registers)
         }
     }
 }
@@ -56,98 +53,65 @@ fn holds<'a>(
 // What a holding unit stalls.
 fn stall<'a>(
     unit: OffloadingType,
-    edges: &'a [u32; 1024],
-    weights: &'a [u32; 1024],
-    registers: &'a [u64; 256],
-    places: &'a [u32; 4096],
-    degrees: &'a [u8; 256],
-    ne: usize,
-    vertices: &mut [bool; 256],
+    board: &'a Board,
+    weights: &'a Weights,
+    registers: &'a Registers,
+    vertices: &mut VertexFlags,
 )
-    requires { ⌜ Within unit × Wired (now edges) ne (now places) (now degrees) ⌝ }
-    ensures { λ r. ⌜ now (vertices .exit) ≡ Units.stalls (now (edges .entry)) (now (registers .entry)) (fetched (now (edges .entry)) (now (registers .entry)) (now (weights .entry)) ne) ne unit (now (vertices .entry)) ⌝ }
+    requires { ⌜ Within unit × Laid (now board) ⌝ }
+    ensures { λ r. ⌜ now (vertices .exit) ≡ stallsOn (now (board .entry)) (now (registers .entry)) (now (weights .entry)) unit (now (vertices .entry)) ⌝ }
 {
     match unit {
-        OffloadingType::DefectMatch { edge } => stall_ends(edge, edges, vertices),
+        OffloadingType::DefectMatch { edge } => stall_ends(edge, board, vertices),
         OffloadingType::VirtualMatch { edge, vertex } => {
-            let regular = peer_of(edge, vertex, edges);
-            stall_around(
-                edge,
-                regular,
-                edges,
-                weights,
-                registers,
-                places,
-                degrees,
-                ne,
-                vertices,
-            )
+            let regular = peer_of(edge, vertex, board);
+            stall_around(edge, regular, board, weights, registers, vertices)
         }
-        OffloadingType::FusionMatch { edge, vertex } => stall_peer(edge, vertex, edges, vertices),
+        OffloadingType::FusionMatch { edge, vertex } => stall_peer(edge, vertex, board, vertices),
     }
 }
 
 // One unit: where it holds, the flags of the vertices that it stalls and of its edge are raised.
 fn offload_unit<'a>(
     unit: OffloadingType,
-    edges: &'a [u32; 1024],
-    weights: &'a [u32; 1024],
-    registers: &'a [u64; 256],
-    places: &'a [u32; 4096],
-    degrees: &'a [u8; 256],
-    ne: usize,
-    vertices: &mut [bool; 256],
-    stalled: &mut [bool; 1024],
+    board: &'a Board,
+    weights: &'a Weights,
+    registers: &'a Registers,
+    vertices: &mut VertexFlags,
+    stalled: &mut Stalls,
 )
-    requires { ⌜ Within unit × Wired (now edges) ne (now places) (now degrees) ⌝ }
-    ensures { λ r. ⌜ now (vertices .exit) ≡ byUnit (now (edges .entry)) (now (registers .entry)) (fetched (now (edges .entry)) (now (registers .entry)) (now (weights .entry)) ne) ne (Units.stalls (now (edges .entry)) (now (registers .entry)) (fetched (now (edges .entry)) (now (registers .entry)) (now (weights .entry)) ne) ne) unit (now (vertices .entry)) ⌝ }
-    ensures { λ r. ⌜ now (stalled .exit) ≡ byUnit (now (edges .entry)) (now (registers .entry)) (fetched (now (edges .entry)) (now (registers .entry)) (now (weights .entry)) ne) ne stallsEdge unit (now (stalled .entry)) ⌝ }
+    requires { ⌜ Within unit × Laid (now board) ⌝ }
+    ensures { λ r. ⌜ now (vertices .exit) ≡ byUnitOn (now (board .entry)) (now (registers .entry)) (now (weights .entry)) (stallsOn (now (board .entry)) (now (registers .entry)) (now (weights .entry))) unit (now (vertices .entry)) ⌝ }
+    ensures { λ r. ⌜ now (stalled .exit) ≡ byUnitOn (now (board .entry)) (now (registers .entry)) (now (weights .entry)) stallsEdge unit (now (stalled .entry)) ⌝ }
 {
-    if !holds(unit, edges, weights, registers, places, degrees, ne) {
+    if !holds(unit, board, weights, registers) {
         return;
     }
-    stall(
-        unit,
-        edges,
-        weights,
-        registers,
-        places,
-        degrees,
-        ne,
-        vertices,
-    );
+    stall(unit, board, weights, registers, vertices);
     // "Each holding unit stalls its edge"
     stalled[edge_of(unit).0 as usize] = true;
 }
 
-// The first nu units, one by one. The places and degrees are those of the ne edges in use.
+// The units in use, one by one.
 pub fn offload<'a>(
-    units: &'a [u32; 2048],
-    nu: usize,
-    edges: &'a [u32; 1024],
-    weights: &'a [u32; 1024],
-    registers: &'a [u64; 256],
-    places: &'a [u32; 4096],
-    degrees: &'a [u8; 256],
-    ne: usize,
-    vertices: &mut [bool; 256],
-    stalled: &mut [bool; 1024],
+    board: &'a Board,
+    weights: &'a Weights,
+    registers: &'a Registers,
+    vertices: &mut VertexFlags,
+    stalled: &mut Stalls,
 )
-    requires { ⌜ Wired (now edges) ne (now places) (now degrees) ⌝ }
-    ensures { λ r. ⌜ now (vertices .exit) ≡ byUnits (now (edges .entry)) (now (registers .entry)) (fetched (now (edges .entry)) (now (registers .entry)) (now (weights .entry)) ne) ne (Units.stalls (now (edges .entry)) (now (registers .entry)) (fetched (now (edges .entry)) (now (registers .entry)) (now (weights .entry)) ne) ne) (now (units .entry)) (now (vertices .entry)) (min nu 2_048) ⌝ }
-    ensures { λ r. ⌜ now (stalled .exit) ≡ byUnits (now (edges .entry)) (now (registers .entry)) (fetched (now (edges .entry)) (now (registers .entry)) (now (weights .entry)) ne) ne stallsEdge (now (units .entry)) (now (stalled .entry)) (min nu 2_048) ⌝ }
+    requires { ⌜ Laid (now board) ⌝ }
+    ensures { λ r. ⌜ now (vertices .exit) ≡ byUnitsOn (now (board .entry)) (now (registers .entry)) (now (weights .entry)) (stallsOn (now (board .entry)) (now (registers .entry)) (now (weights .entry))) (now (vertices .entry)) ⌝ }
+    ensures { λ r. ⌜ now (stalled .exit) ≡ byUnitsOn (now (board .entry)) (now (registers .entry)) (now (weights .entry)) stallsEdge (now (stalled .entry)) ⌝ }
 {
-    let n = at_most(nu, 2_048);
+    let n = board::nu(board);
     let mut k = 0;
     while k < n {
         offload_unit(
-            unit_of(units[k]),
-            edges,
+            unit_of(board::unit(board, k)),
+            board,
             weights,
             registers,
-            places,
-            degrees,
-            ne,
             vertices,
             stalled,
         );

@@ -1,11 +1,13 @@
 // The other edges of a vertex, place by place.
 use crate::edge::is_tight;
+use board::Board;
 use rules::index::EdgeIndex;
 use rules::index::VertexIndex;
+use rules::tables::Registers;
+use rules::tables::Weights;
 ghost use mathlib.Core.Path.{_≡_};
-ghost use Rattle.rules.specs.Fetch.{fetched};
 ghost use Rattle.places.specs.Places.{edgeIn, farIn};
-ghost use Rattle.comb_offloading.specs.Around.{tightOther};
+ghost use Rattle.comb_offloading.specs.On.{tightOtherOn};
 
 fn edge_at(place: u32) -> EdgeIndex
     ensures { λ r. ⌜ r .0 ≡ edgeIn place ⌝ }
@@ -23,16 +25,15 @@ pub(crate) fn far_at(place: u32) -> VertexIndex
 pub(crate) fn is_tight_other<'a>(
     place: u32,
     edge: EdgeIndex,
-    edges: &'a [u32; 1024],
-    weights: &'a [u32; 1024],
-    registers: &'a [u64; 256],
-    ne: usize,
+    board: &'a Board,
+    weights: &'a Weights,
+    registers: &'a Registers,
 ) -> bool
-    ensures { λ r. ⌜ r ≡ tightOther (now (edges .entry)) (now (registers .entry)) (fetched (now (edges .entry)) (now (registers .entry)) (now (weights .entry)) ne) (edge .0) (edgeIn place) ⌝ }
+    ensures { λ r. ⌜ r ≡ tightOtherOn (now (board .entry)) (now (registers .entry)) (now (weights .entry)) (edge .0) (edgeIn place) ⌝ }
 {
     let other = edge_at(place);
     if other.0 == edge.0 {
         return false;
     }
-    is_tight(other, edges, weights, registers, ne)
+    is_tight(other, board, weights, registers)
 }

@@ -2,28 +2,29 @@
 use crate::other::far_at;
 use crate::other::is_tight_other;
 use crate::vertex::raise;
+use board::Board;
 use rules::index::EdgeIndex;
 use rules::index::VertexIndex;
+use rules::tables::Registers;
+use rules::tables::VertexFlags;
+use rules::tables::Weights;
 ghost use mathlib.Core.Path.{_≡_};
 ghost use Prim.Native.Nat.{_<_};
-ghost use Rattle.rules.specs.Fetch.{fetched};
-ghost use Rattle.rules.specs.Units as Units;
 ghost use Rattle.places.specs.Places.{edgeIn, farIn};
-ghost use Rattle.places.specs.Wired.{Wired};
-ghost use Rattle.comb_offloading.specs.Around.{stallsBy};
+ghost use Rattle.board.specs.Board.{Laid};
+ghost use Rattle.comb_offloading.specs.On.{stallsAroundOn, stallsByOn};
 
 fn stall_far<'a>(
     place: u32,
     edge: EdgeIndex,
-    edges: &'a [u32; 1024],
-    weights: &'a [u32; 1024],
-    registers: &'a [u64; 256],
-    ne: usize,
-    vertices: &mut [bool; 256],
+    board: &'a Board,
+    weights: &'a Weights,
+    registers: &'a Registers,
+    vertices: &mut VertexFlags,
 )
-    ensures { λ r. ⌜ now (vertices .exit) ≡ stallsBy (now (edges .entry)) (now (registers .entry)) (fetched (now (edges .entry)) (now (registers .entry)) (now (weights .entry)) ne) (edge .0) (edgeIn place) (farIn place) (now (vertices .entry)) ⌝ }
+    ensures { λ r. ⌜ now (vertices .exit) ≡ stallsByOn (now (board .entry)) (now (registers .entry)) (now (weights .entry)) (edge .0) (edgeIn place) (farIn place) (now (vertices .entry)) ⌝ }
 {
-    if !is_tight_other(place, edge, edges, weights, registers, ne) {
+    if !is_tight_other(place, edge, board, weights, registers) {
         return;
     }
     raise(far_at(place), vertices);
@@ -32,29 +33,25 @@ fn stall_far<'a>(
 pub(crate) fn stall_around<'a>(
     edge: EdgeIndex,
     regular: VertexIndex,
-    edges: &'a [u32; 1024],
-    weights: &'a [u32; 1024],
-    registers: &'a [u64; 256],
-    places: &'a [u32; 4096],
-    degrees: &'a [u8; 256],
-    ne: usize,
-    vertices: &mut [bool; 256],
+    board: &'a Board,
+    weights: &'a Weights,
+    registers: &'a Registers,
+    vertices: &mut VertexFlags,
 )
-    requires { ⌜ (regular .0 < 256) × Wired (now edges) ne (now places) (now degrees) ⌝ }
-    ensures { λ r. ⌜ now (vertices .exit) ≡ Units.stallsAround (now (edges .entry)) (now (registers .entry)) (fetched (now (edges .entry)) (now (registers .entry)) (now (weights .entry)) ne) ne (edge .0) (regular .0) (now (vertices .entry)) ⌝ }
+    requires { ⌜ (regular .0 < 256) × Laid (now board) ⌝ }
+    ensures { λ r. ⌜ now (vertices .exit) ≡ stallsAroundOn (now (board .entry)) (now (registers .entry)) (now (weights .entry)) (edge .0) (regular .0) (now (vertices .entry)) ⌝ }
 {
     raise(regular, vertices);
-    let v = regular.0 as usize;
-    let n = degrees[v];
-    let mut k: u8 = 0;
+    let v = regular.0 as u8;
+    let n = board::degree(board, v);
+    let mut k: u32 = 0;
     while k < n {
         stall_far(
-            places[v * 16 + k as usize],
+            board::place(board, v, k),
             edge,
-            edges,
+            board,
             weights,
             registers,
-            ne,
             vertices,
         );
         k += 1;

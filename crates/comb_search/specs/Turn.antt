@@ -26,6 +26,11 @@ abbrev pub grewBy : ℕ → Answer → Turn
 grewBy k (A.Found f) = Grew k
 grewBy k (A.Refused r) = Stopped r
 
+abbrev pub endedBy : Next → Turn
+endedBy (Stop f) = Found f
+endedBy Negative = Stopped NegativeLength
+endedBy (Grow k) = Grew k
+
 module _ (g : Graph) (ws : List ℕ) (left : ℕ) where
   abbrev pub afterNext : Cycled → Next → Turned
   afterNext c (Stop f) = turnedAs (c .registers) (c .stalled) (Found f)

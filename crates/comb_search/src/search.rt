@@ -2,13 +2,16 @@
 use crate::turn::Turn;
 use crate::turns::Turns;
 use crate::turns::take_turns;
-use comb_cycle::cycle::Counts;
+use board::Board;
 use rules::finding::Sought;
 use rules::finding::Tally;
+use rules::tables::Registers;
+use rules::tables::Stalls;
+use rules::tables::Weights;
 ghost use mathlib.Core.Path.{_≡_};
 ghost use Prim.Native.Nat.{suc};
 ghost use Rattle.comb_cycle.specs.Cycled.{stateOf};
-ghost use Rattle.comb_cycle.specs.Lent.{Ready, graphOf};
+ghost use Rattle.board.specs.Board.{graphOn, Laid};
 ghost use Rattle.comb_search.specs.Seek.{seek, searchedAs};
 
 // The maximum that a search leaves, and its answer.
@@ -18,37 +21,20 @@ pub struct Search {
 }
 
 pub fn find_obstacle<'a>(
-    counts: Counts,
-    vertices: &'a [u32; 256],
-    edges: &'a [u32; 1024],
-    units: &'a [u32; 2048],
-    degrees: &'a [u8; 256],
-    places: &'a [u32; 4096],
-    weights: &'a [u32; 1024],
-    registers: &mut [u64; 256],
-    stalled: &mut [bool; 1024],
+    board: &'a Board,
+    weights: &'a Weights,
+    registers: &mut Registers,
+    stalled: &mut Stalls,
     maximum: u32,
 ) -> Search
-    requires { ⌜ Ready counts (now edges) (now places) (now degrees) ⌝ }
-    ensures { λ r. ⌜ searchedAs (now (registers .exit)) (now (weights .entry)) (now (stalled .exit)) (r .left) (r .answer) ≡ seek (graphOf counts (now (vertices .entry)) (now (edges .entry)) (now (units .entry))) (suc maximum) (stateOf (now (registers .entry)) (now (weights .entry)) (now (stalled .entry)) maximum) 0 0 ⌝ }
+    requires { ⌜ Laid (now board) ⌝ }
+    ensures { λ r. ⌜ searchedAs (now (registers .exit)) (now (weights .entry)) (now (stalled .exit)) (r .left) (r .answer) ≡ seek (graphOn (now (board .entry))) (suc maximum) (stateOf (now (registers .entry)) (now (weights .entry)) (now (stalled .entry)) maximum) 0 0 ⌝ }
 {
     let mut left = maximum;
     let mut growth: u32 = 0;
     let mut steps: u32 = 0;
     loop {
-        let Turns { turn, more } = take_turns(
-            counts,
-            vertices,
-            edges,
-            units,
-            degrees,
-            places,
-            weights,
-            registers,
-            stalled,
-            steps,
-            left,
-        );
+        let Turns { turn, more } = take_turns(board, weights, registers, stalled, steps, left);
         match turn {
             Turn::Found(finding) => {
                 return Search {

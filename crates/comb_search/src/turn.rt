@@ -1,5 +1,5 @@
 // One turn of a search on lent tables: a finding, and the Grow that it allows.
-use comb_cycle::cycle::Counts;
+use board::Board;
 use comb_cycle::cycle::run_cycle;
 use interface::fix_conflict_order;
 use rules::finding::Answer;
@@ -7,11 +7,14 @@ use rules::finding::Finding;
 use rules::finding::Length;
 use rules::instruction::Instruction;
 use rules::refusal::Refusal;
+use rules::tables::Registers;
+use rules::tables::Stalls;
+use rules::tables::Weights;
 ghost use mathlib.Core.Path.{_≡_};
 ghost use Prim.Native.Nat.{min};
-ghost use Rattle.comb_cycle.specs.Lent.{Ready, graphOf};
+ghost use Rattle.board.specs.Board.{graphOn, Laid};
 ghost use Rattle.comb_search.specs.Next.{nextOf, nextBy};
-ghost use Rattle.comb_search.specs.Turn.{grewBy, turned, turnedAs};
+ghost use Rattle.comb_search.specs.Turn.{endedBy, grewBy, turned, turnedAs};
 
 // What a finding leads to.
 pub(crate) enum Next {
@@ -56,6 +59,18 @@ fn after_finding(finding: Finding, left: u32) -> Next
     }
 }
 
+// A turn that grows no further.
+fn ended(next: Next) -> Turn
+    ensures { λ r. ⌜ r ≡ endedBy next ⌝ }
+{
+    match next {
+        Next::Stop(last) => Turn::Found(last),
+        Next::Negative => Turn::Stopped(Refusal::NegativeLength),
+        Next::Grow(length) => Turn::Grew(length),
+    }
+}
+
+// A turn whose last cycle is answered so.
 fn grown_by(length: u32, answer: Answer) -> Turn
     ensures { λ r. ⌜ r ≡ grewBy length answer ⌝ }
 {
@@ -66,52 +81,35 @@ fn grown_by(length: u32, answer: Answer) -> Turn
 }
 
 pub(crate) fn take_turn<'a>(
-    counts: Counts,
-    vertices: &'a [u32; 256],
-    edges: &'a [u32; 1024],
-    units: &'a [u32; 2048],
-    degrees: &'a [u8; 256],
-    places: &'a [u32; 4096],
-    weights: &'a [u32; 1024],
-    registers: &mut [u64; 256],
-    stalled: &mut [bool; 1024],
+    board: &'a Board,
+    weights: &'a Weights,
+    registers: &mut Registers,
+    stalled: &mut Stalls,
     left: u32,
 ) -> Turn
-    requires { ⌜ Ready counts (now edges) (now places) (now degrees) ⌝ }
-    ensures { λ r. ⌜ turnedAs (now (registers .exit)) (now (stalled .exit)) r ≡ turned (graphOf counts (now (vertices .entry)) (now (edges .entry)) (now (units .entry))) (now (weights .entry)) left (now (registers .entry)) (now (stalled .entry)) ⌝ }
+    requires { ⌜ Laid (now board) ⌝ }
+    ensures { λ r. ⌜ turnedAs (now (registers .exit)) (now (stalled .exit)) r ≡ turned (graphOn (now (board .entry))) (now (weights .entry)) left (now (registers .entry)) (now (stalled .entry)) ⌝ }
 {
     let found = run_cycle(
-        counts,
-        vertices,
-        edges,
-        units,
-        degrees,
-        places,
+        board,
         weights,
         registers,
         stalled,
         Instruction::FindObstacle,
     );
-    match found {
-        Answer::Refused(refusal) => Turn::Stopped(refusal),
-        Answer::Found(finding) => match after_finding(finding, left) {
-            Next::Stop(last) => Turn::Found(last),
-            Next::Negative => Turn::Stopped(Refusal::NegativeLength),
-            Next::Grow(length) => {
-                let grown = run_cycle(
-                    counts,
-                    vertices,
-                    edges,
-                    units,
-                    degrees,
-                    places,
-                    weights,
-                    registers,
-                    stalled,
-                    Instruction::Grow { length },
-                );
-                grown_by(length, grown)
-            }
-        },
-    }
+    let Answer::Found(finding) = found else {
+        return grown_by(0, found);
+    };
+    let next = after_finding(finding, left);
+    let Next::Grow(length) = next else {
+        return ended(next);
+    };
+    let grown = run_cycle(
+        board,
+        weights,
+        registers,
+        stalled,
+        Instruction::Grow { length },
+    );
+    grown_by(length, grown)
 }

@@ -1,11 +1,14 @@
 // A turn of a search, and how many more steps repeat it.
 use crate::turn::Turn;
 use crate::turn::take_turn;
-use comb_cycle::cycle::Counts;
+use board::Board;
+use rules::tables::Registers;
+use rules::tables::Stalls;
+use rules::tables::Weights;
 ghost use mathlib.Core.Bool.{true};
 ghost use mathlib.Core.Path.{_≡_};
 ghost use Prim.Native.Nat.{_≤_};
-ghost use Rattle.comb_cycle.specs.Lent.{Ready, graphOf};
+ghost use Rattle.board.specs.Board.{graphOn, Laid};
 ghost use Rattle.comb_search.specs.Repeats.{Repeats, RepeatsTurn};
 ghost use Rattle.comb_search.specs.Turn.{turned, turnedAs};
 
@@ -31,7 +34,7 @@ fn is_same(a: &[u64], b: &[u64]) -> bool
 }
 
 // A step that leaves the registers as they were is found again while its length is left: such steps are taken together.
-fn repeats(before: &[u64; 256], after: &[u64; 256], left: u32, length: u32) -> u32
+fn repeats(before: &Registers, after: &Registers, left: u32, length: u32) -> u32
     requires { ⌜ 1 ≤ length ⌝ }
     ensures { λ r. ⌜ Repeats (now (before .entry)) (now (after .entry)) left length r ⌝ }
 {
@@ -43,34 +46,18 @@ fn repeats(before: &[u64; 256], after: &[u64; 256], left: u32, length: u32) -> u
 
 // The registers before the turn are kept, to see whether it left them as they were.
 fn take_watched<'a>(
-    counts: Counts,
-    vertices: &'a [u32; 256],
-    edges: &'a [u32; 1024],
-    units: &'a [u32; 2048],
-    degrees: &'a [u8; 256],
-    places: &'a [u32; 4096],
-    weights: &'a [u32; 1024],
-    registers: &mut [u64; 256],
-    stalled: &mut [bool; 1024],
+    board: &'a Board,
+    weights: &'a Weights,
+    registers: &mut Registers,
+    stalled: &mut Stalls,
     left: u32,
 ) -> Turns
-    requires { ⌜ Ready counts (now edges) (now places) (now degrees) ⌝ }
-    ensures { λ r. ⌜ turnedAs (now (registers .exit)) (now (stalled .exit)) (r .turn) ≡ turned (graphOf counts (now (vertices .entry)) (now (edges .entry)) (now (units .entry))) (now (weights .entry)) left (now (registers .entry)) (now (stalled .entry)) ⌝ }
+    requires { ⌜ Laid (now board) ⌝ }
+    ensures { λ r. ⌜ turnedAs (now (registers .exit)) (now (stalled .exit)) (r .turn) ≡ turned (graphOn (now (board .entry))) (now (weights .entry)) left (now (registers .entry)) (now (stalled .entry)) ⌝ }
     ensures { λ r. ⌜ RepeatsTurn (now (registers .entry)) (now (registers .exit)) left (r .turn) (r .more) ⌝ }
 {
     let before = *registers;
-    let turn = take_turn(
-        counts,
-        vertices,
-        edges,
-        units,
-        degrees,
-        places,
-        weights,
-        registers,
-        stalled,
-        left,
-    );
+    let turn = take_turn(board, weights, registers, stalled, left);
     let Turn::Grew(length) = turn else {
         return Turns { turn, more: 0 };
     };
@@ -80,47 +67,20 @@ fn take_watched<'a>(
 
 // Most searches end within a few steps: the first 16 are not watched, since that takes a copy of the registers.
 pub(crate) fn take_turns<'a>(
-    counts: Counts,
-    vertices: &'a [u32; 256],
-    edges: &'a [u32; 1024],
-    units: &'a [u32; 2048],
-    degrees: &'a [u8; 256],
-    places: &'a [u32; 4096],
-    weights: &'a [u32; 1024],
-    registers: &mut [u64; 256],
-    stalled: &mut [bool; 1024],
+    board: &'a Board,
+    weights: &'a Weights,
+    registers: &mut Registers,
+    stalled: &mut Stalls,
     steps: u32,
     left: u32,
 ) -> Turns
-    requires { ⌜ Ready counts (now edges) (now places) (now degrees) ⌝ }
-    ensures { λ r. ⌜ turnedAs (now (registers .exit)) (now (stalled .exit)) (r .turn) ≡ turned (graphOf counts (now (vertices .entry)) (now (edges .entry)) (now (units .entry))) (now (weights .entry)) left (now (registers .entry)) (now (stalled .entry)) ⌝ }
+    requires { ⌜ Laid (now board) ⌝ }
+    ensures { λ r. ⌜ turnedAs (now (registers .exit)) (now (stalled .exit)) (r .turn) ≡ turned (graphOn (now (board .entry))) (now (weights .entry)) left (now (registers .entry)) (now (stalled .entry)) ⌝ }
     ensures { λ r. ⌜ RepeatsTurn (now (registers .entry)) (now (registers .exit)) left (r .turn) (r .more) ⌝ }
 {
     if steps >= 16 {
-        return take_watched(
-            counts,
-            vertices,
-            edges,
-            units,
-            degrees,
-            places,
-            weights,
-            registers,
-            stalled,
-            left,
-        );
+        return take_watched(board, weights, registers, stalled, left);
     }
-    let turn = take_turn(
-        counts,
-        vertices,
-        edges,
-        units,
-        degrees,
-        places,
-        weights,
-        registers,
-        stalled,
-        left,
-    );
+    let turn = take_turn(board, weights, registers, stalled, left);
     Turns { turn, more: 0 }
 }

@@ -49,10 +49,10 @@ module _ (es fs xs : List ℕ) (v : ℕ) {b : Bool} {x : VertexRegisters} (tells
   unfolding markAround pick at
   around-none t h = rw (← a, ← tells, not-true b h)
 
-  pub around-end : (ps ds : List ℕ) (t : List Bool) (k : ℕ) {s : List Bool} → not b ≡ false → s ≡ markAlong fs (x .grown) ps v t k → k ≤ getD ds v 0 → getD ds v 0 ≤ k
+  pub around-end : (ps ds : List ℕ) (t : List Bool) (k : ℕ) {n : ℕ} {s : List Bool} → not b ≡ false → s ≡ markAlong fs (x .grown) ps v t k → n ≡ getD ds v 0 → k ≤ n → n ≤ k
       → Wired es ne ps ds → v < 256 → s ≡ markAround es fs xs ne v t
   unfolding markAround pick at
-  around-end ps ds t k h p i j w u =
+  around-end ps ds t k h p d i j w u =
       let z : k ≡ getD ds v 0 = omega arith in rw (← a, ← tells, not-false b h) (p ∙ rw z (mark-along fs (x .grown) w v u t))
 
 module _ (fs : List ℕ) (g : ℕ) (ps : List ℕ) (v : ℕ) (start : List Bool) where
@@ -60,10 +60,10 @@ module _ (fs : List ℕ) (g : ℕ) (ps : List ℕ) (v : ℕ) (start : List Bool)
   unfolding markAlong upTo
   along-start = refl
 
-  pub along-step : (k : ℕ) {t s : List Bool} → s ≡ markFar fs g (edgeIn (placeOf ps v k)) (farIn (placeOf ps v k)) t → t ≡ markAlong fs g ps v start k
+  pub along-step : (k : ℕ) {w : ℕ} {t s : List Bool} → s ≡ markFar fs g (edgeIn w) (farIn w) t → w ≡ placeOf ps v k → t ≡ markAlong fs g ps v start k
       → s ≡ markAlong fs g ps v start (k + 1)
   unfolding markAlong upTo
-  along-step k p q = rw (add-one k, ← q) p
+  along-step k p r q = rw (add-one k, ← q, ← r) p
 
 pub ruleset around = (around-none, around-end, along-start, along-step)
 
@@ -76,8 +76,8 @@ module _ (es fs xs : List ℕ) (ne : ℕ) {t : List Bool} where
   unfolding marked upTo
   marked-step v p q = rw (add-one v, ← q) p
 
-  pub marked-end : (v r : ℕ) → t ≡ marked es fs xs ne v → v ≤ r → r ≤ v → t ≡ marked es fs xs ne r
-  marked-end v r p i j = let z : v ≡ r = omega arith in rw z at p
+  pub marked-end : (v r : ℕ) {m : ℕ} → t ≡ marked es fs xs ne v → m ≡ r → v ≤ m → m ≤ v → t ≡ marked es fs xs ne r
+  marked-end v r p h i j = let z : v ≡ r = omega arith in rw z at p
 
 pub ruleset marking = (marked-start, marked-step, marked-end)
 

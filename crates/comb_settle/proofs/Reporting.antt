@@ -12,7 +12,7 @@ use Rattle.laws.specs.Choice.{pick, by-test}
 use Rattle.laws.specs.Fold.{upTo}
 use Rattle.laws.specs.Table.{paint, paintFrom, paint-none, paint-step}
 use Rattle.rules.specs.Registers.{at, view, keep, shrinking, speedOf, fresh}
-use Rattle.rules.specs.Round.{view-in-range}
+use Rattle.rules.proofs.Round.{view-in-range}
 use Rattle.rules.specs.Respond.{vertexReport}
 use Rattle.rules.specs.Reduce.{least, reduce, vertexFinding}
 use Rattle.rules.specs.declared.finding.Finding.{Finding}

@@ -13,7 +13,7 @@ use Rattle.laws.specs.Fold.{bit}
 use Rattle.rules.specs.Graph.{hasLayer}
 use Rattle.rules.specs.Numbers.{speedCode}
 use Rattle.rules.specs.Registers.{at, view, keep, speedOf, fresh}
-use Rattle.rules.specs.Round.{round}
+use Rattle.rules.proofs.Round.{round}
 use Rattle.rules.specs.Execute.{waits}
 use Rattle.rules.specs.Update.{isLoose, update}
 use Rattle.rules.specs.Shadow.{yielded, shadow}

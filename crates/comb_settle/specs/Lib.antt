@@ -4,3 +4,4 @@ pub mod Wiring
 pub mod Marked
 pub mod Far
 pub mod Unled
+pub mod On

@@ -11,7 +11,7 @@ use Rattle.laws.specs.Choice.{by-test}
 use Rattle.laws.specs.First.{first}
 use Rattle.laws.specs.Table.{paint, paintFrom, paint-same, getD-painted}
 use Rattle.rules.specs.Registers.{at, keep}
-use Rattle.rules.specs.Round.{InRange, at-in-range, round}
+use Rattle.rules.proofs.Round.{InRange, at-in-range, round}
 use Rattle.rules.specs.Peer.{leadBy, servedBy, peer}
 use Rattle.rules.specs.Update.{isLoose, follow, update, updated}
 use Rattle.rules.specs.Shadow.{shadows}

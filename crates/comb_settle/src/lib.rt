@@ -2,31 +2,31 @@
 mod mark;
 
 use crate::mark::mark_led;
+use board::Board;
 use comb_vertex::execute::waits;
 use comb_vertex::peer::propagating_peer;
 use rules::finding::Finding;
 use rules::finding::Length;
-use rules::graph::at_most;
 use rules::registers::PropagatingPeer;
 use rules::registers::VertexRegisters;
 use rules::registers::view;
+use rules::tables::Registers;
+use rules::tables::VertexFlags;
+use rules::tables::Weights;
 ghost use mathlib.Core.Bool.{false, not, _&&_};
 ghost use mathlib.Core.Path.{_≡_};
-ghost use Prim.Native.Nat.{min};
 ghost use lib.Dec.{eqb};
 ghost use Rattle.laws.specs.Choice.{_and_};
 ghost use Rattle.laws.specs.Table.{paint};
-ghost use Rattle.rules.specs.Fetch.{fetched};
 ghost use Rattle.rules.specs.Reduce as Reduce;
 ghost use Rattle.rules.specs.Registers as Registers;
 ghost use Rattle.rules.specs.Respond.{vertexReport};
 ghost use Rattle.rules.specs.declared.finding.Finding.the-variants.{GrowLength};
-ghost use Rattle.places.specs.Ends.{Ends};
-ghost use Rattle.places.specs.Wired.{Wired};
-ghost use Rattle.comb_vertex.specs.Led.{peerAt};
+ghost use Rattle.board.specs.Board.{verticesOn, nvOn, Laid};
+ghost use Rattle.comb_vertex.specs.Led.{peerOn};
 ghost use Rattle.comb_settle.specs.Carried.{lengthIn};
-ghost use Rattle.comb_settle.specs.Marked.{Marks};
-ghost use Rattle.comb_settle.specs.Settled.{kept, updatedWord, seenBy, shadowWord};
+ghost use Rattle.comb_settle.specs.Settled.{kept, seenBy};
+ghost use Rattle.comb_settle.specs.On.{MarksOn, updatedOn, shadowOn};
 
 // What stages 5 and 6 make of one vertex.
 struct Settled {
@@ -36,36 +36,33 @@ struct Settled {
 
 // Only a marked vertex needs the walk.
 fn peer_of<'p>(
-    places: &'p [u32; 4096],
-    degrees: &'p [u8; 256],
-    edges: &[u32; 1024],
-    weights: &[u32; 1024],
-    before: &[u64; 256],
-    ne: usize,
-    executed: &[u64; 256],
-    marks: &[bool; 256],
+    board: &'p Board,
+    weights: &Weights,
+    before: &Registers,
+    executed: &Registers,
+    marks: &VertexFlags,
     v: u8,
 ) -> PropagatingPeer
-    requires { ⌜ Marks (now edges) (fetched (now edges) (now before) (now weights) ne) (now executed) (now places) (now degrees) (now marks) ⌝ }
-    ensures { λ r. ⌜ r ≡ peerAt (now (edges .entry)) (fetched (now (edges .entry)) (now (before .entry)) (now (weights .entry)) ne) (now (executed .entry)) (now (places .entry)) (now (degrees .entry)) v ⌝ }
+    requires { ⌜ MarksOn (now board) (now before) (now weights) (now executed) (now marks) ⌝ }
+    ensures { λ r. ⌜ r ≡ peerOn (now (board .entry)) (now (before .entry)) (now (weights .entry)) (now (executed .entry)) v ⌝ }
 {
     if marks[v as usize] {
-        return propagating_peer(v, places, degrees, edges, weights, before, ne, executed);
+        return propagating_peer(v, board, weights, before, executed);
     }
     PropagatingPeer::Nobody
 }
 
 // registers are those after stage 5. Those that wait are taken apart, since so little is left of their shadow.
 fn seen(
-    vertices: &[u32; 256],
-    stalled: &[bool; 256],
+    board: &Board,
+    stalled: &VertexFlags,
     v: u8,
     peer: PropagatingPeer,
     registers: VertexRegisters,
 ) -> u64
-    ensures { λ r. ⌜ r ≡ seenBy (now (vertices .entry)) (now (stalled .entry)) v peer registers ⌝ }
+    ensures { λ r. ⌜ r ≡ seenBy (verticesOn (now (board .entry))) (now (stalled .entry)) v peer registers ⌝ }
 {
-    if waits(vertices, v, registers) {
+    if waits(board, v, registers) {
         return registers.shadow(peer, true, stalled[v as usize]).keep();
     }
     registers.shadow(peer, false, stalled[v as usize]).keep()
@@ -104,28 +101,24 @@ fn is_firm(word: u64, is_stalled: bool) -> bool
 }
 
 fn settle_at<'p>(
-    vertices: &[u32; 256],
-    places: &'p [u32; 4096],
-    degrees: &'p [u8; 256],
-    edges: &[u32; 1024],
-    weights: &[u32; 1024],
-    before: &[u64; 256],
-    ne: usize,
-    executed: &[u64; 256],
-    stalled: &[bool; 256],
-    marks: &[bool; 256],
+    board: &'p Board,
+    weights: &Weights,
+    before: &Registers,
+    executed: &Registers,
+    stalled: &VertexFlags,
+    marks: &VertexFlags,
     v: u8,
 ) -> Settled
-    requires { ⌜ Marks (now edges) (fetched (now edges) (now before) (now weights) ne) (now executed) (now places) (now degrees) (now marks) ⌝ }
-    ensures { λ r. ⌜ r .updated ≡ updatedWord (now (edges .entry)) (fetched (now (edges .entry)) (now (before .entry)) (now (weights .entry)) ne) (now (executed .entry)) (now (places .entry)) (now (degrees .entry)) v ⌝ }
-    ensures { λ r. ⌜ r .shadow ≡ shadowWord (now (vertices .entry)) (now (edges .entry)) (fetched (now (edges .entry)) (now (before .entry)) (now (weights .entry)) ne) (now (executed .entry)) (now (places .entry)) (now (degrees .entry)) (now (stalled .entry)) v ⌝ }
+    requires { ⌜ MarksOn (now board) (now before) (now weights) (now executed) (now marks) ⌝ }
+    ensures { λ r. ⌜ r .updated ≡ updatedOn (now (board .entry)) (now (before .entry)) (now (weights .entry)) (now (executed .entry)) v ⌝ }
+    ensures { λ r. ⌜ r .shadow ≡ shadowOn (now (board .entry)) (now (before .entry)) (now (weights .entry)) (now (executed .entry)) (now (stalled .entry)) v ⌝ }
 {
     let word = executed[v as usize];
     if is_fresh(word, true) {
         return Settled {
             updated: word,
             shadow: seen(
-                vertices,
+                board,
                 stalled,
                 v,
                 PropagatingPeer::Nobody,
@@ -140,19 +133,9 @@ fn settle_at<'p>(
         };
     }
     let registers = view(word);
-    let peer = peer_of(
-        places,
-        degrees,
-        edges,
-        weights,
-        before,
-        ne,
-        executed,
-        marks,
-        v,
-    );
+    let peer = peer_of(board, weights, before, executed, marks, v);
     let next = registers.update(peer);
-    let shadow = seen(vertices, stalled, v, peer, next);
+    let shadow = seen(board, stalled, v, peer, next);
     Settled {
         updated: next.keep(),
         shadow,
@@ -181,29 +164,23 @@ fn shortest(length: u32, word: u64) -> u32
     length
 }
 
-// Stages 5 and 6 of the first `nv` vertices, into lent tables, and what these vertices find.
+// Stages 5 and 6 of the vertices, into lent tables, and what these vertices find.
 pub fn settle<'p>(
-    vertices: &[u32; 256],
-    places: &'p [u32; 4096],
-    degrees: &'p [u8; 256],
-    edges: &[u32; 1024],
-    weights: &[u32; 1024],
-    before: &[u64; 256],
-    ne: usize,
-    executed: &[u64; 256],
-    stalled: &[bool; 256],
-    nv: usize,
-    reach: usize,
-    updated: &mut [u64; 256],
-    shadows: &mut [u64; 256],
+    board: &'p Board,
+    weights: &Weights,
+    before: &Registers,
+    executed: &Registers,
+    stalled: &VertexFlags,
+    updated: &mut Registers,
+    shadows: &mut Registers,
 ) -> Finding
-    requires { ⌜ Wired (now edges) ne (now places) (now degrees) × Ends (now edges) ne reach ⌝ }
-    ensures { λ r. ⌜ now (updated .exit) ≡ paint (min nv 256) (updatedWord (now (edges .entry)) (fetched (now (edges .entry)) (now (before .entry)) (now (weights .entry)) ne) (now (executed .entry)) (now (places .entry)) (now (degrees .entry))) (now (updated .entry)) ⌝ }
-    ensures { λ r. ⌜ now (shadows .exit) ≡ paint (min nv 256) (shadowWord (now (vertices .entry)) (now (edges .entry)) (fetched (now (edges .entry)) (now (before .entry)) (now (weights .entry)) ne) (now (executed .entry)) (now (places .entry)) (now (degrees .entry)) (now (stalled .entry))) (now (shadows .entry)) ⌝ }
-    ensures { λ r. ⌜ r ≡ Reduce.vertexFinding (now (updated .exit)) (min nv 256) ⌝ }
+    requires { ⌜ Laid (now board) ⌝ }
+    ensures { λ r. ⌜ now (updated .exit) ≡ paint (nvOn (now (board .entry))) (updatedOn (now (board .entry)) (now (before .entry)) (now (weights .entry)) (now (executed .entry))) (now (updated .entry)) ⌝ }
+    ensures { λ r. ⌜ now (shadows .exit) ≡ paint (nvOn (now (board .entry))) (shadowOn (now (board .entry)) (now (before .entry)) (now (weights .entry)) (now (executed .entry)) (now (stalled .entry))) (now (shadows .entry)) ⌝ }
+    ensures { λ r. ⌜ r ≡ Reduce.vertexFinding (now (updated .exit)) (nvOn (now (board .entry))) ⌝ }
 {
-    let n = at_most(nv, 256);
-    let marks = mark_led(places, degrees, edges, weights, before, ne, executed, reach);
+    let n = board::nv(board);
+    let marks = mark_led(board, weights, before, executed);
     let mut length: u32 = 67_108_864;
     let mut v: usize = 0;
     while v < n {
@@ -214,19 +191,7 @@ pub fn settle<'p>(
             v += 1;
             continue;
         }
-        let settled = settle_at(
-            vertices,
-            places,
-            degrees,
-            edges,
-            weights,
-            before,
-            ne,
-            executed,
-            stalled,
-            &marks,
-            v as u8,
-        );
+        let settled = settle_at(board, weights, before, executed, stalled, &marks, v as u8);
         updated[v] = settled.updated;
         shadows[v] = settled.shadow;
         length = shortest(length, updated[v]);

@@ -14,7 +14,7 @@ use Rattle.laws.specs.Leading.{leading, leading-none, leading-pass}
 use Rattle.laws.specs.Table.{paint, paintFrom}
 use Rattle.rules.specs.Graph.{layerOf}
 use Rattle.rules.specs.Registers.{at, view, keep, sameNode, growing, shrinking}
-use Rattle.rules.specs.Round.{at-in-range, round}
+use Rattle.rules.proofs.Round.{at-in-range, round}
 use Rattle.rules.specs.Execute.{notVirtual, moved, execute, still, executeAt, executeRefusal, executed, refusalOf, doneOr}
 use Rattle.rules.specs.declared.instruction.CompactGrowState.{CompactGrowState}
 use Rattle.rules.specs.declared.instruction.CompactGrowState.the-variants.{Stay, Grow, Shrink}

@@ -15,6 +15,7 @@ use Rattle.rules.specs.declared.registers.PropagatingPeer.{PropagatingPeer}
 use Rattle.rules.specs.declared.registers.PropagatingPeer.the-variants.{Nobody}
 use Rattle.places.specs.Places.{edgeIn, farIn, placesOf, degreesOf}
 use Rattle.places.specs.Tie.{first-edges}
+use Rattle.board.specs.Board.{edgesOn, placesOn, degreesOn, fetchedOn}
 use Rattle.comb_vertex.specs.Walked.{placeOf, degreeOf, degree-of}
 
 module _ (es fs xs : List ℕ) where
@@ -36,6 +37,17 @@ module _ (es fs xs : List ℕ) where
 
     unfoldable pub peerAt : List ℕ → ℕ → PropagatingPeer
     peerAt ds v = pick (eqb (at xs v .grown) 0) (ledAt ds v) Nobody
+
+-- on the board b, by the registers rs before the instruction and weights ws
+module _ (b rs ws xs : List ℕ) where
+  abbrev pub servesOn : ℕ → ℕ → Bool
+  servesOn = servesTo (edgesOn b) (fetchedOn b rs ws) xs
+
+  abbrev pub ledOn : ℕ → PropagatingPeer
+  ledOn = ledAt (edgesOn b) (fetchedOn b rs ws) xs (placesOn b) (degreesOn b)
+
+  abbrev pub peerOn : ℕ → PropagatingPeer
+  peerOn = peerAt (edgesOn b) (fetchedOn b rs ws) xs (placesOn b) (degreesOn b)
 
 pick-both : (a b : Bool) (x y : Option ℕ) → pick a (pick b x y) y ≡ pick (a and b) x y
 unfolding pick _and_

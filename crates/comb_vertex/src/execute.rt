@@ -1,6 +1,6 @@
 // Stage 3 over all vertices.
 use crate::at;
-use rules::graph::at_most;
+use board::Board;
 use rules::index::LayerId;
 use rules::index::NodeIndex;
 use rules::index::VertexIndex;
@@ -8,14 +8,16 @@ use rules::instruction::Instruction;
 use rules::refusal::Refusal;
 use rules::registers::Executed;
 use rules::registers::VertexRegisters;
+use rules::tables::Registers;
+use rules::tables::VertexFlags;
 ghost use mathlib.Core.Bool.{false};
 ghost use mathlib.Core.Path.{_≡_};
-ghost use Prim.Native.Nat.{min};
 ghost use lib.ListN.{getD};
 ghost use Rattle.laws.specs.Choice.{_or_};
 ghost use Rattle.rules.specs.Execute as Execute;
 ghost use Rattle.rules.specs.Graph as Graph;
 ghost use Rattle.rules.specs.Registers as Registers;
+ghost use Rattle.board.specs.Board.{verticesOn, nvOn, Laid};
 ghost use Rattle.comb_vertex.specs.Execution as Stage;
 ghost use Rattle.comb_vertex.specs.Execution.{execution, executedInto};
 
@@ -25,51 +27,51 @@ pub enum Execution {
     Refused(Refusal),
 }
 
-fn layer_of(vertices: &[u32; 256], v: u8) -> LayerId
-    ensures { λ r. ⌜ r .0 ≡ Graph.layerOf (now (vertices .entry)) v ⌝ }
+fn layer_of(board: &Board, v: u8) -> LayerId
+    ensures { λ r. ⌜ r .0 ≡ Graph.layerOf (verticesOn (now (board .entry))) v ⌝ }
 {
-    LayerId((vertices[v as usize] % 65_536) as u16)
+    LayerId((board::vertex(board, v) % 65_536) as u16)
 }
 
-pub fn has_layer(vertices: &[u32; 256], v: u8) -> bool
-    ensures { λ r. ⌜ r ≡ Graph.hasLayer (now (vertices .entry)) v ⌝ }
+pub fn has_layer(board: &Board, v: u8) -> bool
+    ensures { λ r. ⌜ r ≡ Graph.hasLayer (verticesOn (now (board .entry))) v ⌝ }
 {
-    vertices[v as usize] % 65_536 < 32_768
+    board::vertex(board, v) % 65_536 < 32_768
 }
 
 // "virtual with a layer"
-pub fn waits(vertices: &[u32; 256], v: u8, registers: VertexRegisters) -> bool
-    ensures { λ r. ⌜ r ≡ Execute.waits (now (vertices .entry)) v registers ⌝ }
+pub fn waits(board: &Board, v: u8, registers: VertexRegisters) -> bool
+    ensures { λ r. ⌜ r ≡ Execute.waits (verticesOn (now (board .entry))) v registers ⌝ }
 {
-    if has_layer(vertices, v) {
+    if has_layer(board, v) {
         return registers.is_virtual;
     }
     false
 }
 
-fn is_still(vertices: &[u32; 256], registers: &[u64; 256], stalled: &[bool; 256], v: u8) -> bool
-    ensures { λ r. ⌜ r ≡ (getD (now (stalled .entry)) v false or Execute.waits (now (vertices .entry)) v (Registers.at (now (registers .entry)) v)) ⌝ }
+fn is_still(board: &Board, registers: &Registers, stalled: &VertexFlags, v: u8) -> bool
+    ensures { λ r. ⌜ r ≡ (getD (now (stalled .entry)) v false or Execute.waits (verticesOn (now (board .entry))) v (Registers.at (now (registers .entry)) v)) ⌝ }
 {
     if stalled[v as usize] {
         return true;
     }
-    waits(vertices, v, at(registers, v))
+    waits(board, v, at(registers, v))
 }
 
 fn execute_at(
-    vertices: &[u32; 256],
-    registers: &[u64; 256],
-    stalled: &[bool; 256],
+    board: &Board,
+    registers: &Registers,
+    stalled: &VertexFlags,
     instruction: Instruction,
     v: u8,
 ) -> Executed
-    ensures { λ r. ⌜ r ≡ Execute.executeAt (now (vertices .entry)) (now (registers .entry)) (now (stalled .entry)) instruction v ⌝ }
+    ensures { λ r. ⌜ r ≡ Execute.executeAt (verticesOn (now (board .entry))) (now (registers .entry)) (now (stalled .entry)) instruction v ⌝ }
 {
     at(registers, v).execute(
         instruction,
         VertexIndex(v as u16),
-        layer_of(vertices, v),
-        is_still(vertices, registers, stalled, v),
+        layer_of(board, v),
+        is_still(board, registers, stalled, v),
     )
 }
 
@@ -106,7 +108,7 @@ fn concerns(instruction: Instruction, v: u8, registers: VertexRegisters) -> bool
     }
 }
 
-fn is_concerned(registers: &[u64; 256], instruction: Instruction, v: u8) -> bool
+fn is_concerned(registers: &Registers, instruction: Instruction, v: u8) -> bool
     ensures { λ r. ⌜ r ≡ Stage.concerns instruction v (Registers.at (now (registers .entry)) v) ⌝ }
 {
     concerns(instruction, v, at(registers, v))
@@ -122,19 +124,19 @@ fn refusal_of(executed: Executed) -> Execution
     }
 }
 
-// The registers of the first `nv` vertices after the instruction, into a lent table; "lowest vertex decides", and it and those after it are not written.
+// The registers of the vertices after the instruction, into a lent table; "lowest vertex decides", and it and those after it are not written.
 pub fn execute(
-    vertices: &[u32; 256],
-    registers: &[u64; 256],
-    stalled: &[bool; 256],
+    board: &Board,
+    registers: &Registers,
+    stalled: &VertexFlags,
     instruction: Instruction,
-    nv: usize,
-    out: &mut [u64; 256],
+    out: &mut Registers,
 ) -> Execution
-    ensures { λ r. ⌜ r ≡ execution (Execute.executeRefusal (now (vertices .entry)) (now (registers .entry)) (now (stalled .entry)) instruction (min nv 256)) ⌝ }
-    ensures { λ r. ⌜ now (out .exit) ≡ executedInto (now (vertices .entry)) (now (registers .entry)) (now (stalled .entry)) instruction (min nv 256) (now (out .entry)) ⌝ }
+    requires { ⌜ Laid (now board) ⌝ }
+    ensures { λ r. ⌜ r ≡ execution (Execute.executeRefusal (verticesOn (now (board .entry))) (now (registers .entry)) (now (stalled .entry)) instruction (nvOn (now (board .entry)))) ⌝ }
+    ensures { λ r. ⌜ now (out .exit) ≡ executedInto (verticesOn (now (board .entry))) (now (registers .entry)) (now (stalled .entry)) instruction (nvOn (now (board .entry))) (now (out .entry)) ⌝ }
 {
-    let n = at_most(nv, 256);
+    let n = board::nv(board);
     let mut v: usize = 0;
     while v < n {
         if !is_concerned(registers, instruction, v as u8) {
@@ -142,7 +144,7 @@ pub fn execute(
             v += 1;
             continue;
         }
-        let executed = execute_at(vertices, registers, stalled, instruction, v as u8);
+        let executed = execute_at(board, registers, stalled, instruction, v as u8);
         let Executed::Done(next) = executed else {
             return refusal_of(executed);
         };

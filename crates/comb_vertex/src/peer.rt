@@ -1,40 +1,40 @@
 // Stage 4: the propagating peer. `before` are the registers before the instruction, by which the first ne edges have their fetch weights.
 use crate::at;
 use crate::degree_of;
-use crate::place_of;
+use board::Board;
 use comb_edge::fetch_weight;
 use comb_edge::post_fetch_is_tight;
 use rules::registers::PropagatingPeer;
+use rules::tables::Registers;
+use rules::tables::Weights;
 ghost use mathlib.Core.Path.{_≡_};
 ghost use mathlib.Core.Option.{some};
 ghost use Prim.Native.Nat.{_/_, _%_};
-ghost use Rattle.rules.specs.Fetch.{fetched};
 ghost use Rattle.rules.specs.Peer.{leadBy};
-ghost use Rattle.comb_vertex.specs.Led.{servesTo, ledAt, peerAt};
+ghost use Rattle.comb_vertex.specs.Led.{servesOn, ledOn, peerOn};
 
 // Whether the edge at a place leads to a vertex that propagates.
 fn serves(
     place: u32,
-    edges: &[u32; 1024],
-    weights: &[u32; 1024],
-    before: &[u64; 256],
-    ne: usize,
-    executed: &[u64; 256],
+    board: &Board,
+    weights: &Weights,
+    before: &Registers,
+    executed: &Registers,
 ) -> bool
-    ensures { λ r. ⌜ r ≡ servesTo (now (edges .entry)) (fetched (now (edges .entry)) (now (before .entry)) (now (weights .entry)) ne) (now (executed .entry)) (place % 1_024) (place / 1_024 % 256) ⌝ }
+    ensures { λ r. ⌜ r ≡ servesOn (now (board .entry)) (now (before .entry)) (now (weights .entry)) (now (executed .entry)) (place % 1_024) (place / 1_024 % 256) ⌝ }
 {
     if at(executed, (place / 1024 % 256) as u8).is_propagating() {
         let e = (place % 1024) as usize;
         return post_fetch_is_tight(
-            edges[e],
-            fetch_weight(e, edges, weights, before, ne),
+            board::edge(board, e),
+            fetch_weight(e, board, weights, before),
             executed,
         );
     }
     false
 }
 
-fn lead(executed: &[u64; 256], far: u8) -> PropagatingPeer
+fn lead(executed: &Registers, far: u8) -> PropagatingPeer
     ensures { λ r. ⌜ r ≡ leadBy (now (executed .entry)) (some far) ⌝ }
 {
     let peer = at(executed, far);
@@ -46,24 +46,21 @@ fn lead(executed: &[u64; 256], far: u8) -> PropagatingPeer
 // "the first edge by index that .."
 fn first_peer<'p>(
     v: u8,
-    places: &'p [u32; 4096],
-    degrees: &'p [u8; 256],
-    edges: &[u32; 1024],
-    weights: &[u32; 1024],
-    before: &[u64; 256],
-    ne: usize,
-    executed: &[u64; 256],
+    board: &'p Board,
+    weights: &Weights,
+    before: &Registers,
+    executed: &Registers,
 ) -> PropagatingPeer
-    ensures { λ r. ⌜ r ≡ ledAt (now (edges .entry)) (fetched (now (edges .entry)) (now (before .entry)) (now (weights .entry)) ne) (now (executed .entry)) (now (places .entry)) (now (degrees .entry)) v ⌝ }
+    ensures { λ r. ⌜ r ≡ ledOn (now (board .entry)) (now (before .entry)) (now (weights .entry)) (now (executed .entry)) v ⌝ }
 {
-    let degree = degree_of(degrees, v);
+    let degree = degree_of(board, v);
     let mut k: u16 = 0;
     loop {
         if k >= degree {
             break PropagatingPeer::Nobody;
         }
-        let place = place_of(places, v, k);
-        if serves(place, edges, weights, before, ne, executed) {
+        let place = board::place(board, v, k as u32);
+        if serves(place, board, weights, before, executed) {
             break lead(executed, (place / 1024 % 256) as u8);
         }
         k += 1;
@@ -73,18 +70,15 @@ fn first_peer<'p>(
 // "for new grown amount 0"
 pub fn propagating_peer<'p>(
     v: u8,
-    places: &'p [u32; 4096],
-    degrees: &'p [u8; 256],
-    edges: &[u32; 1024],
-    weights: &[u32; 1024],
-    before: &[u64; 256],
-    ne: usize,
-    executed: &[u64; 256],
+    board: &'p Board,
+    weights: &Weights,
+    before: &Registers,
+    executed: &Registers,
 ) -> PropagatingPeer
-    ensures { λ r. ⌜ r ≡ peerAt (now (edges .entry)) (fetched (now (edges .entry)) (now (before .entry)) (now (weights .entry)) ne) (now (executed .entry)) (now (places .entry)) (now (degrees .entry)) v ⌝ }
+    ensures { λ r. ⌜ r ≡ peerOn (now (board .entry)) (now (before .entry)) (now (weights .entry)) (now (executed .entry)) v ⌝ }
 {
     if at(executed, v).grown == 0 {
-        return first_peer(v, places, degrees, edges, weights, before, ne, executed);
+        return first_peer(v, board, weights, before, executed);
     }
     PropagatingPeer::Nobody
 }

@@ -2,42 +2,16 @@
 // `=` between them.
 use batch::Next;
 use batch::next_session;
-use listing::bad_line;
-use listing::first_line;
 use rules::graph::Graph;
 use rules::graph::Opening;
 use rules::graph::at_most;
-use rules::refusal::Refusal;
 use rules::state::State;
-use session::end_of_input;
 use session::run_chunk;
-ghost use Prim.Native.Nat.{_≤_};
-ghost use lib.ListN.{length};
-
-fn put(text: &[u8], n: usize) {
-    let length = at_most(n, text.len());
-    io::write_all(libc::STDOUT_FILENO, &text[0..length]);
-}
-
-fn show_refusal(out: &mut [u8], why: Refusal) {
-    let n = bad_line(out, 0, why);
-    put(out, n);
-}
-
-// A number of vertices, edges or units: an image has at most 1,024 of each.
-fn count(n: usize) -> u32 {
-    if n < 1_024 { n as u32 } else { 1_024 }
-}
-
-fn show_head(out: &mut [u8], graph: Graph, units: usize) {
-    let n = first_line(out, 0, count(graph.nv), count(graph.ne), count(units));
-    put(out, n);
-}
-
-fn show_end(out: &mut [u8], left: usize) {
-    let n = end_of_input(left, out);
-    put(out, n);
-}
+use text_out::gets_on;
+use text_out::put;
+use text_out::show_end;
+use text_out::show_head;
+use text_out::show_refusal;
 
 // Each chunk is longer than the one before it, up to 17 bytes, so the records get on.
 fn show_records(graph: Graph, first: State, session: &[u8], start: usize, out: &mut [u8]) {
@@ -49,10 +23,11 @@ fn show_records(graph: Graph, first: State, session: &[u8], start: usize, out: &
         turns -= 1;
         let to = from + at_most(piece, session.len() - from);
         let done = run_chunk(graph, state, &session[from..to], out);
+        let stop = done.stop;
         state = done.state;
         from += done.used;
         put(out, done.written);
-        if done.ended {
+        if !gets_on(stop, done.used) {
             return;
         }
         if piece == 17 {
@@ -69,7 +44,9 @@ fn show(session: &[u8], out: &mut [u8]) {
     let decoder = comb::open(session);
     let opening = decoder.opening;
     match opening {
-        Opening::Refused(why) => show_refusal(out, why),
+        Opening::Refused(why) => {
+            show_refusal(out, why);
+        }
         Opening::Accepted { units, start } => {
             let graph = decoder.graph;
             let state = decoder.state;

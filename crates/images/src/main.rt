@@ -1,9 +1,12 @@
 // Opens each image of standard input, and writes a line for it: `DCT`, V, E, the number of units, where its session records start and a
 // checksum of its graph, or `bad` and the refusal's number. Each image comes after its length in four bytes, the low byte first.
-ghost use Prim.Native.Nat.{_<_};
+use batch::Next;
+use batch::next_session;
+use batch::put_number;
 use rules::graph::Graph;
 use rules::graph::Opened;
 use rules::graph::Opening;
+use rules::graph::at_most;
 
 fn mix(sum: u32, word: u32) -> u32 {
     (((sum as u64) * 1000003 + (word as u64)) % 4294967296) as u32
@@ -30,18 +33,13 @@ fn checksum(graph: Graph, units: u32) -> u32 {
     )
 }
 
-fn put(n: u64) {
-    io::write_all(1, b" ");
-    io::print_decimal(1, n);
-}
-
 fn show_graph(graph: Graph, units: usize, start: usize) {
-    io::write_all(1, b"DCT");
-    put(graph.nv as u64);
-    put(graph.ne as u64);
-    put(graph.nu as u64);
-    put(start as u64);
-    put(checksum(graph, (units % 65536) as u32) as u64);
+    io::write_all(libc::STDOUT_FILENO, b"DCT");
+    put_number(graph.nv as u64);
+    put_number(graph.ne as u64);
+    put_number(graph.nu as u64);
+    put_number(start as u64);
+    put_number(checksum(graph, (units % 65536) as u32) as u64);
 }
 
 fn show(opened: Opened) {
@@ -52,41 +50,22 @@ fn show(opened: Opened) {
             show_graph(graph, units, start);
         }
         Opening::Refused(why) => {
-            io::write_all(1, b"bad");
-            put(listing::refusal_number(why) as u64);
+            io::write_all(libc::STDOUT_FILENO, b"bad");
+            put_number(listing::refusal_number(why) as u64);
         }
     }
-    io::write_all(1, b"\n");
+    io::write_all(libc::STDOUT_FILENO, b"\n");
 }
 
-fn wide(b: u8) -> usize
-    ensures { λ r. ⌜ r < 256 ⌝ }
-{
-    b as usize
-}
-
-// The number in the first four bytes, or 0 where they run out.
-fn length_of(s: &[u8]) -> usize {
-    if s.len() < 4 {
-        return 0;
-    }
-    wide(s[0]) + wide(s[1]) * 256 + wide(s[2]) * 65536 + wide(s[3]) * 16777216
-}
-
-fn show_all(s: &[u8]) {
-    let mut at = 0;
-    while at < s.len() {
-        let n = length_of(&s[at..]);
-        if s.len() - at < 4 {
-            break;
-        }
-        let from = at + 4;
-        if s.len() - from < n {
-            break;
-        }
-        let to = from + n;
-        show(image::open(&s[from..to]));
-        at = to;
+fn show_all(buffer: &mut [u8]) {
+    let mut turns = u64::MAX;
+    while 0 < turns {
+        let Next::Session(n) = next_session(buffer) else {
+            return;
+        };
+        let length = at_most(n, buffer.len());
+        show(image::open(&buffer[0..length]));
+        turns -= 1;
     }
 }
 
@@ -97,6 +76,5 @@ fn room() -> [u8; 1048576] {
 
 fn main() {
     let mut buffer = room();
-    let n = io::read_full(0, &mut buffer);
-    show_all(&buffer[..n]);
+    show_all(&mut buffer);
 }

@@ -1,9 +1,10 @@
 -- Folds over the indices 0 .. n - 1: `upTo f a n` is f (n - 1) (.. (f 1 (f 0 a))), what a loop over 0..n holds after its turns.
-use Prim.Native.Nat.{ℕ, zero, suc, _+_, _<_}
+use Prim.Native.Nat.{ℕ, zero, suc, _+_, _≤_, _<_}
 use mathlib.Core.Path.{_≡_, refl, sym, ap, subst}
 use mathlib.Core.Logic.{⊎-elim}
 use mathlib.Core.Bool.{Bool, true, false}
 use native.Mathlib.Nat.{eq-or-lt-of-le, le-of-suc-le-suc, not-suc-le-zero}
+use native.Mathlib.Omega.{arith}
 use Rattle.laws.specs.Choice.{_and_, _or_}
 
 module _ {A : Type 0} where
@@ -24,6 +25,15 @@ anyTo p n = upTo (λ k a. a or p k) false n
 
 abbrev pub allTo : (ℕ → Bool) → ℕ → Bool
 allTo p n = upTo (λ k a. a and p k) true n
+
+pub bit-most : (b : Bool) → bit b ≤ 1
+bit-most true = omega arith
+bit-most false = omega arith
+
+pub count-most : (p : ℕ → Bool) (n : ℕ) → countTo p n ≤ n
+unfolding upTo
+count-most p zero = omega arith
+count-most p (suc n) = omega (arith, count-most p n, bit-most (p n))
 
 module _ {A : Type 0} (f : ℕ → A → A) (a : A) where
   -- what the start has and each turn keeps

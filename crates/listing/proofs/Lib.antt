@@ -3,3 +3,4 @@ pub mod Digits
 pub mod Arms
 pub mod Edges
 pub mod Whole
+pub mod Answers

@@ -16,6 +16,10 @@ longest = 103
 abbrev pub longestPairs : ℕ
 longestPairs = 5_122
 
+-- `r 18` and the line's end
+abbrev pub recordLine : ℕ
+recordLine = 5
+
 module _ (most at : ℕ) (text out : List ℕ) where
   -- the position after the line
   unfoldable pub lineEnd : ℕ

@@ -1,31 +1,27 @@
 // The lines of a replay's listing, each as bytes put into a lent buffer. A function returns the position after its line; where the buffer
 // lacks the room that the longest such line may take, it writes nothing and returns the position it was given.
+mod answer;
 mod decimal;
 mod finding;
 mod pairs;
 mod put;
 mod reply;
 
-use crate::pairs::put_pairs;
+use crate::answer::put_answer;
 use crate::put::put_end;
+use crate::put::put_text;
 use crate::reply::put_bad;
 use crate::reply::put_head;
-use crate::reply::put_refusal;
-use crate::reply::put_search;
-use crate::reply::put_word;
-use rules::finding::Sought;
-use rules::finding::WordAnswer;
+use records::Answered;
 use rules::refusal::Refusal;
 ghost use mathlib.Core.Path.{_≡_};
 ghost use Prim.Native.Nat.{_+_, _-_, _≤_};
-ghost use lib.ListN.{length};
-ghost use Rattle.rules.specs.Listing.{line, firstLine, refusalText, replyText};
-ghost use Rattle.rules.specs.Run.{carried, found};
+ghost use Rattle.rules.specs.Listing.{line, firstLine, refusalText};
 ghost use Rattle.rules.specs.Numbers.{refusalNumber};
 ghost use Rattle.rules.specs.declared.refusal.Refusal.the-variants.{SessionRecord};
 ghost use Rattle.listing.specs.Heads.{badText};
-ghost use Rattle.listing.specs.Lines.{longest, longestPairs, lineEnd, lineIn};
-ghost use Rattle.listing.specs.Pairs.{pairsText};
+ghost use Rattle.listing.specs.Answers.{answerText};
+ghost use Rattle.listing.specs.Lines.{longest, longestPairs, recordLine, lineEnd, lineIn};
 
 // "Refusal numbers, in order of checking"
 pub fn refusal_number(refusal: Refusal) -> u8
@@ -59,6 +55,8 @@ const LONGEST: usize = 103;
 
 const LONGEST_PAIRS: usize = 5122;
 
+const RECORD_LINE: usize = 5;
+
 // How much of a buffer lies behind a position.
 fn room(size: usize, at: usize) -> usize
     ensures { λ r. ⌜ r ≡ size - at ⌝ }
@@ -66,39 +64,16 @@ fn room(size: usize, at: usize) -> usize
     if at < size { size - at } else { 0 }
 }
 
-pub fn word_line(out: &mut [u8], at: usize, answer: WordAnswer) -> usize
-    ensures { λ r. ⌜ r ≡ lineEnd longest at (line (replyText (carried answer))) (now (out .entry)) ⌝ }
-    ensures { λ r. ⌜ now (out .exit) ≡ lineIn longest at (line (replyText (carried answer))) (now (out .entry)) ⌝ }
-    ensures { λ r. ⌜ r ≤ at + longest ⌝ }
-{
-    if room(out.len(), at) < LONGEST {
-        return at;
-    }
-    let at = put_word(out, at, answer);
-    put_end(out, at)
-}
-
-pub fn search_line(out: &mut [u8], at: usize, answer: Sought, left: u32) -> usize
-    ensures { λ r. ⌜ r ≡ lineEnd longest at (line (replyText (found answer left))) (now (out .entry)) ⌝ }
-    ensures { λ r. ⌜ now (out .exit) ≡ lineIn longest at (line (replyText (found answer left))) (now (out .entry)) ⌝ }
-    ensures { λ r. ⌜ r ≤ at + longest ⌝ }
-{
-    if room(out.len(), at) < LONGEST {
-        return at;
-    }
-    let at = put_search(out, at, answer, left);
-    put_end(out, at)
-}
-
-pub fn pairs_line(out: &mut [u8], at: usize, stalled: &[bool; 1024]) -> usize
-    ensures { λ r. ⌜ r ≡ lineEnd longestPairs at (line (pairsText (now (stalled .entry)))) (now (out .entry)) ⌝ }
-    ensures { λ r. ⌜ now (out .exit) ≡ lineIn longestPairs at (line (pairsText (now (stalled .entry)))) (now (out .entry)) ⌝ }
+// What a record is answered, where these edges are stalled.
+pub fn answer_line(out: &mut [u8], at: usize, answered: Answered, stalled: &[bool; 1024]) -> usize
+    ensures { λ r. ⌜ r ≡ lineEnd longestPairs at (line (answerText (now (stalled .entry)) answered)) (now (out .entry)) ⌝ }
+    ensures { λ r. ⌜ now (out .exit) ≡ lineIn longestPairs at (line (answerText (now (stalled .entry)) answered)) (now (out .entry)) ⌝ }
     ensures { λ r. ⌜ r ≤ at + longestPairs ⌝ }
 {
     if room(out.len(), at) < LONGEST_PAIRS {
         return at;
     }
-    let at = put_pairs(out, at, stalled);
+    let at = put_answer(out, at, answered, stalled);
     put_end(out, at)
 }
 
@@ -129,13 +104,12 @@ pub fn bad_line(out: &mut [u8], at: usize, refusal: Refusal) -> usize
 
 // The last line of a session with a record cut short or of another kind.
 pub fn record_line(out: &mut [u8], at: usize) -> usize
-    ensures { λ r. ⌜ r ≡ lineEnd longest at (line (refusalText SessionRecord)) (now (out .entry)) ⌝ }
-    ensures { λ r. ⌜ now (out .exit) ≡ lineIn longest at (line (refusalText SessionRecord)) (now (out .entry)) ⌝ }
-    ensures { λ r. ⌜ r ≤ at + longest ⌝ }
+    ensures { λ r. ⌜ r ≡ lineEnd recordLine at (line (refusalText SessionRecord)) (now (out .entry)) ⌝ }
+    ensures { λ r. ⌜ now (out .exit) ≡ lineIn recordLine at (line (refusalText SessionRecord)) (now (out .entry)) ⌝ }
+    ensures { λ r. ⌜ r ≤ at + recordLine ⌝ }
 {
-    if room(out.len(), at) < LONGEST {
+    if room(out.len(), at) < RECORD_LINE {
         return at;
     }
-    let at = put_refusal(out, at, Refusal::SessionRecord);
-    put_end(out, at)
+    put_text(out, at, b"r 18\n")
 }

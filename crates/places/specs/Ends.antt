@@ -1,5 +1,5 @@
 -- The ends of edges, and how far those in use reach: no end of them stands at r or beyond, so a walk over the first r vertices meets every edge.
-use Prim.Native.Nat.{ℕ, _≤_, _<_, _/_, _%_}
+use Prim.Native.Nat.{ℕ, _+_, _≤_, _<_, _/_, _%_, max}
 use mathlib.Core.Path.{_≡_, refl}
 use mathlib.Core.Bool.{true}
 use mathlib.Core.List.{List}
@@ -10,7 +10,17 @@ use borrow.Author.Tests.{eq-eqb}
 use Rattle.laws.specs.Fold.{upTo, upTo-each, upTo-keeps}
 use Rattle.laws.specs.Tests.{the-first, the-second}
 use Rattle.rules.specs.Graph.{leftOf, rightOf, touches}
-use Rattle.places.specs.Put.{beyond}
+
+-- the ends that an edge's word says
+abbrev pub left : ℕ → ℕ
+left w = w % 256
+
+abbrev pub right : ℕ → ℕ
+right w = w / 256 % 256
+
+-- past r, and past both ends
+abbrev pub beyond : ℕ → ℕ → ℕ
+beyond r w = max (max r (left w + 1)) (right w + 1)
 
 pub record Ends (es : List ℕ) (ne r : ℕ) : Type 0 where
   pub small : r ≤ 256

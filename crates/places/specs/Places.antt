@@ -4,9 +4,7 @@ use mathlib.Core.List.{List, map}
 use lib.ListN.{length, getD}
 use Rattle.laws.specs.Table.{table}
 use Rattle.laws.specs.Listed.{indices}
-use Rattle.rules.specs.Graph.{touches, farEnd, edgesInUse}
-use Rattle.places.specs.Ends.{reachOf}
-use Rattle.places.specs.declared.Places.{Places}
+use Rattle.rules.specs.Graph.{touches, farEnd}
 
 -- what a place's word says: the edge, and its far end
 abbrev pub edgeIn : ℕ → ℕ
@@ -33,7 +31,3 @@ module _ (es : List ℕ) where
 
   unfoldable pub degreesOf : ℕ → List ℕ
   degreesOf n = table 256 (λ v. length (touching n v))
-
-  -- the places of the first n edges, as far as these are in use
-  unfoldable pub placed : ℕ → Places
-  placed n = record { ne = edgesInUse es n; reach = reachOf es (edgesInUse es n); degrees = degreesOf (edgesInUse es n); places = placesOf (edgesInUse es n) }

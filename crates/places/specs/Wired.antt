@@ -1,13 +1,12 @@
 -- Places and degrees that are those of the edges in use, and what a walk over them is.
 use Prim.Native.Nat.{ℕ, _+_, _*_, _≤_, _<_}
-use mathlib.Core.Path.{_≡_, refl}
+use mathlib.Core.Path.{_≡_}
 use mathlib.Core.List.{List}
 use lib.ListN.{getD}
 use Rattle.laws.specs.Choice.{pick}
 use Rattle.laws.specs.Fold.{upTo}
 use Rattle.rules.specs.Graph.{touches, farEnd, edgesInUse}
-use Rattle.places.specs.Ends.{Ends, ends}
-use Rattle.places.specs.Places.{edgeIn, farIn, placesOf, degreesOf, placed}
+use Rattle.places.specs.Places.{edgeIn, farIn, placesOf, degreesOf}
 use Rattle.places.specs.Tie.{degree-most, walk-edges}
 
 pub record Wired (es : List ℕ) (ne : ℕ) (ps ds : List ℕ) : Type 0 where
@@ -16,15 +15,6 @@ pub record Wired (es : List ℕ) (ne : ℕ) (ps ds : List ℕ) : Type 0 where
   pub used : ne ≡ edgesInUse es limit
   pub listed : ps ≡ placesOf es ne
   pub counted : ds ≡ degreesOf es ne
-
--- what `place_edges` gives
-pub wired : (es : List ℕ) (m : ℕ) → m ≤ 1_024 → Wired es (placed es m .ne) (placed es m .places) (placed es m .degrees)
-unfolding placed
-wired es m l = record { limit = m; small = l; used = refl; listed = refl; counted = refl }
-
-pub ends-placed : (es : List ℕ) (m : ℕ) → Ends es (placed es m .ne) (placed es m .reach)
-unfolding placed
-ends-placed es m = ends es (edgesInUse es m)
 
 module _ {es ps ds : List ℕ} {ne : ℕ} (w : Wired es ne ps ds) (v : ℕ) (u : v < 256) where
   pub degree-wired : getD ds v 0 ≤ 16

@@ -1,43 +1,44 @@
 -- No step of a search takes anything below zero: a finding and the Grow after it see the same stalls, so each vertex moves by the speed its
 -- shadow showed, and the finding left room for that.
-use Prim.Native.Nat.{ℕ, zero, suc, _+_, _-_, _<_, _≤_}
-use mathlib.Core.Path.{_≡_, refl, sym, ap, _∙_, subst}
+use Prim.Native.Nat.{ℕ, _<_, _≤_}
+use mathlib.Core.Path.{_≡_, refl, sym, ap, _∙_}
 use mathlib.Core.Bool.{Bool, true, false}
-use mathlib.Core.List.{List, [], _∷_}
-use mathlib.Core.Option.{none}
+use mathlib.Core.List.{List, [], _∷_, _++_, append-nil}
 use native.Mathlib.Omega.{arith}
 use borrow.Author.Tests.{ltb-true, ltb-false}
 use lib.Dec.{ltb}
 use lib.ListN.{length, getD}
 use Rattle.laws.specs.Choice.{_or_, pick, by-test}
-use Rattle.rules.specs.Graph.{inUse, leftOf, rightOf, hasLayer, layerOf}
+use Rattle.rules.specs.Graph.{inUse, leftOf, rightOf}
 use Rattle.rules.specs.Registers.{view, speedOf, at, sameNode}
-use Rattle.rules.specs.Fetch.{fetched}
 use Rattle.rules.specs.Execute.{execute, executeAt, still, waits, doneOr, refusalOf, moved}
-use Rattle.rules.specs.Peer.{peer}
-use Rattle.rules.specs.Respond.{less, remaining}
+use Rattle.rules.specs.Respond.{remaining}
 use Rattle.rules.specs.Reduce.{finding}
 use Rattle.rules.specs.Instruct.{weightsFetched, verticesStalled}
 use Rattle.rules.specs.State.{withMaximum}
+use Rattle.rules.specs.Run as Run
+use Rattle.rules.specs.Run.{Call, word, clear, seek, seekOn, look, call}
 use Rattle.rules.specs.declared.graph.Graph.{Graph}
 use Rattle.rules.specs.declared.state.State.{State}
 use Rattle.rules.specs.declared.finding.Finding.{Finding}
+use Rattle.rules.specs.declared.finding.Finding.the-variants.{GrowLength}
+use Rattle.rules.specs.declared.finding.Length.the-variants.{Ahead}
 use Rattle.rules.specs.declared.instruction.Instruction.the-variants.{FindObstacle, Grow as GrowBy}
 use Rattle.rules.specs.declared.registers.VertexRegisters.{VertexRegisters}
 use Rattle.rules.specs.declared.instruction.CompactGrowState.{CompactGrowState}
 use Rattle.rules.specs.declared.instruction.CompactGrowState.the-variants.{Stay, Grow, Shrink}
 use Rattle.rules.specs.declared.registers.Executed.{Executed}
 use Rattle.rules.specs.declared.registers.Executed.the-variants.{Done}
-use Rattle.promises.proofs.Stages.{executed-has, updated-has, shadows-has, executed-at, updated-at, shadows-at, executed-length, updated-length, shadowAt, doneAt}
-use Rattle.promises.specs.Careful.{Careful, NotBehind, AllCareful, none as no-steps, more}
+use Rattle.promises.proofs.Stages.{executed-has, shadows-has, executed-at, shadows-at, shadowAt}
+use Rattle.promises.specs.Careful.{Careful, NotBehind, AllCareful, none as no-steps, more, CarefulCall, CarefulCalls}
 use Rattle.promises.specs.Cycle.{shown, leftOn, afterExecute, afterUpdate, shadowsSeen}
 use Rattle.promises.proofs.Completed.{Completed}
 use Rattle.promises.proofs.Kept.{Kept, find-kept, updated-kept, fetched-same, vertices-same}
-use Rattle.promises.proofs.Within.{Allows, Moves, less-ahead, less-le, covered, room, shadow-moves, shrinks-allow}
-use Rattle.promises.specs.Ledger.{share, wasStalled, wasWaiting}
-use Rattle.rules.specs.Search.{Walk, Ended, begun, search}
-use Rattle.promises.proofs.Turns.{Stopped, Stepped, walked-keeps}
-use Rattle.promises.proofs.Reached.{Sound, cycle-sound, fresh-sound, limited-sound, stepped-keeps}
+use Rattle.promises.proofs.Within.{Allows, Moves, less-ahead, less-le, room, shadow-moves, shrinks-allow}
+use Rattle.promises.specs.Ledger.{share, wasStalled, wasWaiting, noted}
+use Rattle.rules.specs.Search.{Walk, search}
+use Rattle.promises.proofs.Turns.{Stepped, link-find, link-grow, link-allows, search-keeps}
+use Rattle.promises.proofs.Reached.{Sound, cycle-sound, stepped-sound, call-sound}
 use Rattle.promises.proofs.Sums.{vertices-fit, completed-adds}
 
 speed-virtual : (s : CompactGrowState) (n : ℕ) (x : VertexRegisters) → doneOr x (moved s n x) .«is_virtual» ≡ x .«is_virtual»
@@ -52,7 +53,7 @@ moved-virtual true n x = refl
 moved-virtual false n x = speed-virtual (x .speed) n x
 
 -- a finding, the state m after it, and a Grow by n that it allows, to t
-module _ (g : Graph) (s m t : State) (f h : Finding) (n : ℕ) (sound : Sound g s) (some : 1 ≤ n) (allows : Allows n f)
+module _ (g : Graph) (s m t : State) (f h : Finding) (n : ℕ) (sound : Sound g (s .registers)) (some : 1 ≤ n) (allows : Allows n f)
     (find : Completed (inUse g) s FindObstacle m f) (grow : Completed (inUse g) m (GrowBy n) t h) where
   kept : (v : ℕ) → Kept (at (s .registers) v) (at (m .registers) v)
   kept v = rw (find .registers) (find-kept (inUse g) s v)
@@ -65,10 +66,10 @@ module _ (g : Graph) (s m t : State) (f h : Finding) (n : ℕ) (sound : Sound g 
   stalls-same =
       rw weights-same (vertices-same (inUse g .edges) (s .registers) (m .registers) (weightsFetched (inUse g) s) (inUse g .ne) kept (inUse g .units) (inUse g .nu))
 
-  sound-middle : Sound g m
+  sound-middle : Sound g (m .registers)
   sound-middle = cycle-sound g s m FindObstacle f tt sound find
 
-  sound-after : Sound g t
+  sound-after : Sound g (t .registers)
   sound-after = cycle-sound g m t (GrowBy n) h tt sound-middle grow
 
   abbrev stopped : ℕ → Bool
@@ -152,29 +153,52 @@ module _ (g : Graph) (s m t : State) (f h : Finding) (n : ℕ) (sound : Sound g 
 
 module _ (g : Graph) where
   pub record Going (c : Walk) : Type 0 where
-    pub sound : Sound g (c .state)
+    pub sound : Sound g (c .state .registers)
     pub careful : AllCareful g (c .trail)
 
-  step-careful : (c d : Walk) → Sound g (c .state) → (h : Stepped (inUse g) c d) → Careful g (record { before = h .middle; length = h .length })
+  step-careful : (c d : Walk) → Sound g (c .state .registers) → (h : Stepped (inUse g) c d) → Careful g (h .entry)
   unfolding share wasStalled wasWaiting still waits inUse
-  step-careful c d p h = record {
-    seen = c .state;
-    finding = h .seen;
-    found = h .find-is;
-    after = h .grown;
-    told = h .told;
-    grew = h .grow-is;
-    vertices = completed-adds g (h .middle) (h .grown) (GrowBy (h .length)) (h .told) tt (cycle-sound g _ _ FindObstacle (h .seen) tt p (h .find)) (h .grow);
-    edges = edges g (c .state) (h .middle) (h .grown) (h .seen) (h .told) (h .length) p (h .some) (h .allows) (h .find) (h .grow);
-  }
+  step-careful c d p h =
+      let l = h .link in
+      let find = link-find (inUse g) l in
+      let grow = link-grow (inUse g) l in
+      record {
+        seen = c .state;
+        finding = GrowLength (Ahead (l .limit));
+        found = l .found;
+        after = l .after;
+        told = l .told;
+        grew = l .grew;
+        vertices = completed-adds g (h .entry .before) (l .after) (GrowBy (h .entry .length)) (l .told) tt (cycle-sound g _ _ FindObstacle _ tt p find) grow;
+        edges = edges g (c .state) (h .entry .before) (l .after) _ (l .told) (h .entry .length) p (l .some) (link-allows (inUse g) l) find grow;
+      }
 
   go : (c d : Walk) → Going c → Stepped (inUse g) c d → Going d
   go c d p h = record {
-    sound = stepped-keeps g (Sound g) (fresh-sound g) (limited-sound g) (cycle-sound g) c d (p .sound) h;
+    sound = stepped-sound g c d (p .sound) h;
     careful = rw (h .trail) (more (step-careful c d (p .sound) h) (p .careful));
   }
 
-  pub search-careful : (s : State) → Sound g s → AllCareful g (search g s .walk .trail)
-  unfolding search
+  pub search-careful : (s : State) → Sound g (s .registers) → AllCareful g (search g s .walk .trail)
   search-careful s p =
-      walked-keeps (inUse g) Going (λ a. AllCareful g (a .walk .trail)) (λ c a q h. rw (h .trail) (q .careful)) go _ (begun s) (record { sound = p; careful = no-steps })
+      search-keeps g Going (λ a. AllCareful g (a .walk .trail)) (λ c a q h. rw (h .trail) (q .careful)) go s (record { sound = p; careful = no-steps })
+
+  -- ---- every search of a run
+
+  seek-careful : (s : State) (m : ℕ) (b : Bool) → Sound g (s .registers) → AllCareful g (pick b (search g (withMaximum m s) .walk .trail ++ []) [])
+  unfolding pick
+  seek-careful s m true p = rw append-nil (search-careful (withMaximum m s) p)
+  seek-careful s m false p = no-steps
+
+  call-careful : (s : State) (c : Call) → Sound g (s .registers) → CarefulCall g s c
+  unfolding noted
+  call-careful s (seek m) p = seek-careful s m (ltb m 2_147_483_648) p
+  call-careful s seekOn p = rw append-nil (search-careful s p)
+  call-careful s (Run.execute i) p = tt
+  call-careful s (word w) p = tt
+  call-careful s clear p = tt
+  call-careful s (look l) p = tt
+
+  pub calls-careful : (s : State) (cs : List Call) → Sound g (s .registers) → CarefulCalls g s cs
+  calls-careful s [] p = tt
+  calls-careful s (c ∷ cs) p = (call-careful s c p, calls-careful (call g s c .state) cs (call-sound g s c p))

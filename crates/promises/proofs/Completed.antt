@@ -2,16 +2,13 @@
 -- says. Every later fact reads these fields.
 use Prim.Native.Nat.{ℕ, _<_}
 use mathlib.Core.Path.{_≡_, refl}
-use mathlib.Core.Bool.{Bool, true, false}
-use mathlib.Core.List.{List}
+use mathlib.Core.Bool.{false}
 use mathlib.Core.Option.{Option, none, some}
-use Rattle.laws.specs.Choice.{pick, by-test}
-use Rattle.laws.specs.First.{first, first-at}
-use Rattle.rules.specs.Execute.{executed, executeAt, executeRefusal, refusalOf}
-use Rattle.rules.specs.Update.{updated}
-use Rattle.rules.specs.Shadow.{shadows}
+use Rattle.laws.specs.Choice.{by-test}
+use Rattle.laws.specs.First.{first-at}
+use Rattle.rules.specs.Execute.{executeAt, executeRefusal, refusalOf}
 use Rattle.rules.specs.Reduce.{someOdd, finding}
-use Rattle.rules.specs.Instruct.{weightsFetched, verticesStalled, edgesStalled, refused, concluded, settled, carried, step}
+use Rattle.rules.specs.Instruct.{weightsFetched, verticesStalled, edgesStalled, concluded, settled, carried, step}
 use Rattle.promises.specs.Cycle.{afterExecute, afterUpdate, shadowsSeen}
 use Rattle.rules.specs.declared.graph.Graph.{Graph}
 use Rattle.rules.specs.declared.state.State.{State}

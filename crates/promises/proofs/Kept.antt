@@ -1,21 +1,20 @@
 -- FindObstacle keeps what stages 1 and 2 look at. It changes only vertices that are neither defect nor virtual at grown 0, and of these only
 -- node, root and speed; so fetch weights, units and stalls are the same in the cycle after it.
-use Prim.Native.Nat.{ℕ, _+_, _<_}
-use mathlib.Core.Path.{_≡_, refl, sym, ap, _∙_, subst, fun-ext}
-use mathlib.Core.Bool.{Bool, true, false, not}
+use Prim.Native.Nat.{ℕ}
+use mathlib.Core.Path.{_≡_, refl, ap, fun-ext}
+use mathlib.Core.Bool.{Bool, true, false}
 use mathlib.Core.List.{List}
-use lib.ListN.{getD, replicate}
-use Rattle.laws.specs.Choice.{_and_, _or_, pick, by-test}
-use Rattle.laws.specs.Fold.{upTo}
+use lib.ListN.{replicate}
+use Rattle.laws.specs.Choice.{_and_, by-test}
 use Rattle.laws.specs.Table.{paint}
-use Rattle.rules.specs.Graph.{leftOf, rightOf, conditionOf, touches, farEnd}
+use Rattle.rules.specs.Graph.{leftOf, rightOf, conditionOf, farEnd}
 use Rattle.rules.specs.Registers.{at, growing}
 use Rattle.rules.specs.Fetch.{reduced, fetchWeight, fetched, tight, countedTight, tightCount}
-use Rattle.rules.specs.Units.{raise, eager, isOther, permits, defectMatch, virtualMatch, fusionMatch, holds, stallsAround, stalls, stalledVertices}
-use Rattle.rules.specs.Execute.{execute, executeAt, executed}
+use Rattle.rules.specs.Units.{eager, isOther, permits, defectMatch, virtualMatch, fusionMatch, holds, stallsAround, stalls, stalledVertices}
+use Rattle.rules.specs.Execute.{execute, executeAt}
 use Rattle.rules.specs.Peer.{peer}
 use Rattle.rules.specs.Update.{isLoose, follow, update, updated}
-use Rattle.rules.specs.Instruct.{weightsFetched, verticesStalled, edgesStalled}
+use Rattle.rules.specs.Instruct.{weightsFetched, verticesStalled}
 use Rattle.rules.specs.declared.graph.Graph.{Graph}
 use Rattle.rules.specs.declared.graph.OffloadingType.{OffloadingType}
 use Rattle.rules.specs.declared.graph.OffloadingType.the-variants.{DefectMatch, VirtualMatch, FusionMatch}
@@ -24,7 +23,7 @@ use Rattle.rules.specs.declared.instruction.Instruction.the-variants.{FindObsta
 use Rattle.rules.specs.declared.registers.VertexRegisters.{VertexRegisters}
 use Rattle.rules.specs.declared.registers.PropagatingPeer.{PropagatingPeer}
 use Rattle.rules.specs.declared.registers.PropagatingPeer.the-variants.{Nobody, Leads}
-use Rattle.promises.proofs.Stages.{executed-has, updated-has, doneAt, updateAt}
+use Rattle.promises.proofs.Stages.{executed-has, updated-has}
 use Rattle.promises.specs.Cycle.{afterExecute, afterUpdate}
 
 -- z is y, or y is loose and they differ in node, root and speed only

@@ -1,3 +1,4 @@
+pub mod Numbers
 pub mod Stages
 pub mod Completed
 pub mod Kept
@@ -8,4 +9,6 @@ pub mod Numbered
 pub mod Sums
 pub mod Searches
 pub mod Careful
+pub mod Reports
+pub mod Expanded
 pub mod Demand3

@@ -1,34 +1,37 @@
 -- What the tables of stages 3, 5 and 6 hold at a vertex. Each stage keeps registers that fit their word, so a table reads back what it was
 -- filled with.
-use Prim.Native.Nat.{ℕ, zero, suc, _+_, _-_, _<_, _≤_}
-use mathlib.Core.Path.{_≡_, refl, sym, ap, _∙_, subst}
+use Prim.Native.Nat.{ℕ, _+_, _<_, _≤_}
+use mathlib.Core.Path.{_≡_, sym, subst}
 use mathlib.Core.Bool.{Bool, true, false}
 use mathlib.Core.List.{List}
 use native.Mathlib.Omega.{arith}
 use borrow.Author.Tests.{ltb-false, leb-true}
-use lib.Dec.{ltb, leb}
+use lib.Dec.{ltb}
 use lib.ListN.{length, getD}
-use Rattle.laws.specs.Choice.{_and_, pick, by-test, and-left, and-right}
+use Rattle.laws.specs.Choice.{pick, by-test, and-left, and-right}
 use Rattle.laws.specs.Table.{paint, getD-painted, paint-at, length-paint}
 use Rattle.rules.specs.Graph.{layerOf}
-use Rattle.rules.specs.Registers.{view, keep, at, fresh, noNode}
-use Rattle.rules.specs.Execute.{execute, moved, doneOr, executeAt, executed, still, withGrown}
+use Rattle.rules.specs.Registers.{view, keep, at, fresh}
+use Rattle.rules.specs.Execute.{execute, moved, doneOr, executeAt, executed, still}
 use Rattle.rules.specs.Peer.{peer, leadBy, servedBy}
-use Rattle.rules.specs.Update.{update, follow, isLoose, updated}
+use Rattle.rules.specs.Update.{update, follow, updated}
 use Rattle.rules.specs.Shadow.{shadow, shadows, yield, yielded}
 use Rattle.rules.specs.Execute.{waits}
 use Rattle.rules.specs.Words.{inBounds}
+use Rattle.rules.specs.Instruct.{barred}
+use Rattle.rules.specs.declared.graph.Graph.{Graph}
 use Rattle.rules.specs.declared.instruction.CompactGrowState.{CompactGrowState}
 use Rattle.rules.specs.declared.instruction.CompactGrowState.the-variants.{Stay, Grow, Shrink}
 use Rattle.rules.specs.declared.instruction.Instruction.{Instruction}
 use Rattle.rules.specs.declared.instruction.Instruction.the-variants.{SetSpeed, SetBlossom, AddDefectVertex, FindObstacle, Grow as GrowBy, LoadDefectsExternal}
+use Rattle.rules.specs.declared.refusal.Refusal.{Refusal}
 use Rattle.rules.specs.declared.registers.VertexRegisters.{VertexRegisters}
 use Rattle.rules.specs.declared.registers.Executed.{Executed}
 use Rattle.rules.specs.declared.registers.PropagatingPeer.{PropagatingPeer}
 use Rattle.rules.specs.declared.registers.PropagatingPeer.the-variants.{Nobody, Leads}
 use mathlib.Core.Option.{Option, none, some}
 use Rattle.laws.specs.First.{first}
-use Rattle.rules.specs.Round.{InRange, at-in-range, round}
+use Rattle.rules.proofs.Round.{InRange, at-in-range, round}
 
 -- ---- a table of registers that fit
 module _ (f : ℕ → VertexRegisters) (fits : (v : ℕ) → InRange (f v)) (nv : ℕ) (rs : List ℕ) where
@@ -57,20 +60,28 @@ fresh-fits false = record { grown = omega arith; node = omega arith; root = omeg
 -- the nodes that an instruction carries fit a register
 abbrev pub Bounded : Instruction → Type 0
 Bounded (SetSpeed n s) = n .0 ≤ 32_767
-Bounded (SetBlossom n b) = b .0 ≤ 32_767
+Bounded (SetBlossom n b) = (n .0 ≤ 32_767) × (b .0 ≤ 32_767)
 Bounded (AddDefectVertex v n) = n .0 ≤ 32_767
 Bounded FindObstacle = Unit {0}
 Bounded (GrowBy l) = Unit {0}
 Bounded (LoadDefectsExternal t) = Unit {0}
 
-pub bounded : (i : Instruction) → inBounds i ≡ true → Bounded i
+in-bounds : (i : Instruction) → inBounds i ≡ true → Bounded i
 unfolding inBounds
-bounded (SetSpeed n s) h = leb-true (n .0) 32_767 h
-bounded (SetBlossom n b) h = leb-true (b .0) 32_767 (and-right _ _ h)
-bounded (AddDefectVertex v n) h = leb-true (n .0) 32_767 (and-right _ _ h)
-bounded FindObstacle h = tt
-bounded (GrowBy l) h = tt
-bounded (LoadDefectsExternal t) h = tt
+in-bounds (SetSpeed n s) h = leb-true (n .0) 32_767 h
+in-bounds (SetBlossom n b) h = (leb-true (n .0) 32_767 (and-left _ _ h), leb-true (b .0) 32_767 (and-right _ _ h))
+in-bounds (AddDefectVertex v n) h = leb-true (n .0) 32_767 (and-right _ _ h)
+in-bounds FindObstacle h = tt
+in-bounds (GrowBy l) h = tt
+in-bounds (LoadDefectsExternal t) h = tt
+
+pub some-not-none : {A : Type 0} (x : A) → some x ≡ none → ⊥
+some-not-none x e = let z : _≡_ {A = ℕ} 0 1 = cc in omega arith
+
+-- what is not barred is in bounds
+pub bounded : (g : Graph) (i : Instruction) → barred g i ≡ none → Bounded i
+unfolding barred
+bounded g i = by-test (λ (o : Option Refusal). o ≡ none → Bounded i) (inBounds i) (λ t e. in-bounds i t) (λ t e. absurd (some-not-none _ e))
 
 moved-fits : (s : CompactGrowState) (l : ℕ) (x : VertexRegisters) → InRange x → InRange (doneOr x (moved s l x))
 unfolding moved

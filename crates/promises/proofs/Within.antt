@@ -1,28 +1,31 @@
 -- A Grow by no more than the finding before it takes nothing below zero: the finding is at most each report, a vertex at Shrink reports its
 -- own amount, and an edge reports what remains over the speed at which its ends close.
 use Prim.Native.Nat.{ℕ, zero, suc, _+_, _-_, _/_, _%_, _<_, _≤_}
-use mathlib.Core.Path.{_≡_, refl, sym, ap, _∙_, subst}
-use mathlib.Core.Bool.{Bool, true, false, not}
+use mathlib.Core.Path.{_≡_, refl}
+use mathlib.Core.Bool.{Bool, true, false}
 use mathlib.Core.List.{List}
-use mathlib.Core.Option.{Option, none, some}
+use mathlib.Core.Option.{none}
 use native.Mathlib.Omega.{arith}
-use borrow.Author.Tests.{le-leb, leb-true, eqb-true, ltb-false, ltb-true, le-ltb}
-use lib.Dec.{leb, ltb, eqb}
+use borrow.Author.Tests.{le-leb, leb-true, leb-false, eqb-true, ltb-false}
+use lib.Dec.{T, leb, ltb, eqb, le→leb}
+use lib.IntN.{pos, negℤ}
+use lib.Signed.{leZ}
 use lib.ListN.{getD}
 use Rattle.laws.specs.Choice.{_and_, _or_, pick, by-test, and-left, and-right}
-use Rattle.laws.specs.Fold.{upTo, upTo-each, upTo-first}
+use Rattle.laws.specs.Fold.{upTo-each, upTo-first}
 use Rattle.rules.specs.Registers.{at, shrinking, sameNode}
-use Rattle.rules.specs.Execute.{moved, doneOr, refusalOf, withGrown}
-use Rattle.rules.specs.Shadow.{shadow, yield, yielded}
-use Rattle.rules.specs.Respond.{vertexReport, joint, less, isZero, isOdd, half, limit, meeting, respond, remaining, edgeResponse, side, available}
-use Rattle.rules.specs.Reduce.{least, reduce, odd, reported, someOdd, vertexFinding, finding}
+use Rattle.rules.specs.Execute.{moved, doneOr, refusalOf}
+use Rattle.rules.specs.Shadow.{shadow, yielded}
+use Rattle.rules.specs.Respond.{vertexReport, joint, less, limit, meeting, respond, remaining, edgeResponse}
+use Rattle.rules.specs.Reduce.{reduce, odd, reported, someOdd, vertexFinding, finding}
 use Rattle.rules.specs.Graph.{leftOf, rightOf}
 use Rattle.promises.specs.Careful.{NotBehind}
+use Rattle.promises.proofs.Stages.{some-not-none}
 use Rattle.rules.specs.declared.instruction.CompactGrowState.{CompactGrowState}
 use Rattle.rules.specs.declared.instruction.CompactGrowState.the-variants.{Stay, Grow, Shrink}
 use Rattle.rules.specs.declared.registers.VertexRegisters.{VertexRegisters}
 use Rattle.rules.specs.declared.registers.Executed.{Executed}
-use Rattle.rules.specs.declared.registers.Executed.the-variants.{Done, BelowZero, AboveBound}
+use Rattle.rules.specs.declared.registers.Executed.the-variants.{Done}
 use Rattle.rules.specs.declared.registers.PropagatingPeer.{PropagatingPeer}
 use Rattle.rules.specs.declared.finding.Length.{Length}
 use Rattle.rules.specs.declared.finding.Length.the-variants.{NoLimit, Ahead, Behind}
@@ -39,6 +42,10 @@ Allows n (GrowLength NoLimit) = Unit {0}
 Allows n (GrowLength (Ahead m)) = n ≤ m
 Allows n (GrowLength (Behind m)) = ⊥
 Allows n (Conflict a b) = ⊥
+
+pub ahead-allows : (n m : ℕ) → n ≤ m → Allows n (GrowLength (Ahead m))
+unfolding Allows
+ahead-allows n m l = l
 
 reduce-allows : (n : ℕ) (p q : Finding) → Allows n (reduce p q) → Allows n p × Allows n q
 unfolding Allows
@@ -92,10 +99,7 @@ Moves Stay n a b = b ≡ a
 Moves Grow n a b = b ≡ a + n
 Moves Shrink n a b = b + n ≡ a
 
-some-not-none : {A : Type 0} (x : A) → some x ≡ none → ⊥
-some-not-none x e = let z : _≡_ {A = ℕ} 0 1 = cc in omega arith
-
-own-moves : (s : CompactGrowState) (n : ℕ) (x : VertexRegisters) → refusalOf (moved s n x) ≡ none → Moves s n (x .grown) (doneOr x (moved s n x) .grown)
+pub own-moves : (s : CompactGrowState) (n : ℕ) (x : VertexRegisters) → refusalOf (moved s n x) ≡ none → Moves s n (x .grown) (doneOr x (moved s n x) .grown)
 unfolding Moves moved
 own-moves Stay n x h = refl
 own-moves Grow n x h =
@@ -137,12 +141,17 @@ Closes (suc (suc (suc j))) n d = Unit {0}
 
 pub less-ahead : (w n : ℕ) → n ≤ w → NotBehind (less w n)
 unfolding less pick NotBehind
-less-ahead w n l = rw (le-leb n w l) tt
+less-ahead w n l = rw (le-leb n w l) (record { le = le→leb 0 (w - n) (omega arith) })
+
+not-behind : (m : ℕ) → T (leZ (pos 0) (negℤ (pos m))) → m ≡ 0
+not-behind zero h = refl
+not-behind (suc m) h = absurd h
 
 pub less-le : (w n : ℕ) → NotBehind (less w n) → n ≤ w
 unfolding less NotBehind
 less-le w n =
-    by-test (λ (l : Length). NotBehind l → n ≤ w) (leb n w) (λ t h. leb-true n w t) (λ t h. absurd h)
+    by-test (λ (l : Length). NotBehind l → n ≤ w) (leb n w) (λ t h. leb-true n w t)
+    (λ t h. omega (arith, leb-false n w t, not-behind (n - w) (h .le)))
 
 even-halves : (n d : ℕ) → Allows n (reported (pick (eqb (d % 2) 1) OddRemaining (Reports (GrowLength (Ahead (d / 2))))))
     → odd (pick (eqb (d % 2) 1) OddRemaining (Reports (GrowLength (Ahead (d / 2))))) ≡ false → n + n ≤ d

@@ -3,26 +3,27 @@ use Prim.Native.Nat.{ℕ, _<_}
 use mathlib.Core.Path.{_≡_}
 use mathlib.Core.Bool.{false}
 use mathlib.Core.List.{List, [], _∷_}
-use lib.IntN.{ℤ, pos, _+ℤ_}
+use lib.IntN.{pos, _+ℤ_}
+use lib.Signed.{_≤ℤ_}
 use Rattle.rules.specs.Graph.{inUse, leftOf, rightOf}
+use Rattle.rules.specs.Numbers.{signed}
 use Rattle.rules.specs.Registers.{at, sameNode}
 use Rattle.rules.specs.Instruct.{step}
 use Rattle.rules.specs.Search.{GrowthStep}
+use Rattle.rules.specs.Run.{Call, execute, word, clear, seek, seekOn, look, call}
 use Rattle.rules.specs.declared.graph.Graph.{Graph}
 use Rattle.rules.specs.declared.state.State.{State}
 use Rattle.rules.specs.declared.finding.Answer.the-variants.{Found}
 use Rattle.rules.specs.declared.finding.Finding.{Finding}
 use Rattle.rules.specs.declared.finding.Length.{Length}
-use Rattle.rules.specs.declared.finding.Length.the-variants.{NoLimit, Ahead, Behind}
 use Rattle.rules.specs.declared.instruction.Instruction.the-variants.{FindObstacle, Grow}
 use Rattle.promises.specs.Cycle.{shown, leftOn}
 use Rattle.promises.specs.Ledger.{share}
+use Rattle.promises.specs.Reports.{madeBy}
 
 -- "zero or more"
 unfoldable pub NotBehind : Length → Type 0
-NotBehind NoLimit = Unit {0}
-NotBehind (Ahead n) = Unit {0}
-NotBehind (Behind n) = ⊥
+NotBehind l = pos 0 ≤ℤ signed l
 
 module _ (g : Graph) where
   pub record Careful (e : GrowthStep) : Type 0 where
@@ -44,3 +45,17 @@ module _ (g : Graph) where
   pub data AllCareful : List GrowthStep → Type 0 where
     none : AllCareful []
     more : {e : GrowthStep} {es : List GrowthStep} → Careful e → AllCareful es → AllCareful (e ∷ es)
+
+  -- a call that is a search makes careful steps
+  abbrev pub CarefulCall : State → Call → Type 0
+  CarefulCall s (seek m) = AllCareful (madeBy g s (seek m))
+  CarefulCall s seekOn = AllCareful (madeBy g s seekOn)
+  CarefulCall s (execute i) = Unit {0}
+  CarefulCall s (word w) = Unit {0}
+  CarefulCall s clear = Unit {0}
+  CarefulCall s (look l) = Unit {0}
+
+  -- each of these calls, on the state that the ones before leave
+  abbrev pub CarefulCalls : State → List Call → Type 0
+  CarefulCalls s [] = Unit {0}
+  CarefulCalls s (c ∷ cs) = CarefulCall s c × CarefulCalls (call g s c .state) cs

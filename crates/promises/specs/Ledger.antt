@@ -1,40 +1,52 @@
 -- Demand 3's sums: the growth steps of a run since its last reset, and what each is to a vertex. They are read off the run, not off stored
 -- totals.
 use Prim.Native.Nat.{ℕ, _+_}
-use mathlib.Core.Bool.{Bool, true, false}
+use mathlib.Core.Bool.{Bool, false}
 use mathlib.Core.List.{List, [], _∷_, _++_}
 use lib.Dec.{ltb}
-use lib.IntN.{ℤ, pos, negℤ, _+ℤ_}
+use lib.IntN.{ℤ, pos, _+ℤ_, _*ℤ_}
 use lib.ListN.{getD}
 use Rattle.laws.specs.Choice.{_and_, _or_, pick}
 use Rattle.rules.specs.Graph.{hasLayer, inUse}
+use Rattle.rules.specs.Numbers.{speed}
 use Rattle.rules.specs.Registers.{at}
 use Rattle.rules.specs.State.{withMaximum}
 use Rattle.rules.specs.Instruct.{instruct, verticesStalled}
 use Rattle.rules.specs.Search.{GrowthStep, search}
 use Rattle.rules.specs.Words.{unpacked}
-use Rattle.rules.specs.Run.{Call, execute, word, clear, seek, seekOn, list, call}
+use Rattle.rules.specs.Run.{Call, execute, word, clear, seek, seekOn, look, call}
 use Rattle.rules.specs.declared.graph.Graph.{Graph}
 use Rattle.rules.specs.declared.state.State.{State}
 use Rattle.rules.specs.declared.finding.Answer.{Answer}
 use Rattle.rules.specs.declared.finding.Answer.the-variants.{Found, Refused}
 use Rattle.rules.specs.declared.instruction.CompactGrowState.{CompactGrowState}
-use Rattle.rules.specs.declared.instruction.CompactGrowState.the-variants.{Stay, Grow, Shrink}
 use Rattle.rules.specs.declared.instruction.Instruction.{Instruction}
 use Rattle.rules.specs.declared.instruction.Instruction.the-variants.{SetSpeed, SetBlossom, AddDefectVertex, FindObstacle, Grow as GrowBy, LoadDefectsExternal}
 use Rattle.rules.specs.declared.instruction.Unpacked.{Unpacked}
 use Rattle.rules.specs.declared.instruction.Unpacked.the-variants as U
 
 -- "length times the speed"
-abbrev pub times : CompactGrowState → ℕ → ℤ
-times Stay n = pos 0
-times Grow n = pos n
-times Shrink n = negℤ (pos n)
+unfoldable pub times : CompactGrowState → ℕ → ℤ
+times s n = pos n *ℤ speed s
 
 -- the lengths of the steps, added
 unfoldable pub sum : List GrowthStep → ℕ
 sum [] = 0
 sum (e ∷ es) = sum es + e .length
+
+-- the growth step that an instruction on s is, once it is completed
+abbrev pub grows : State → Instruction → List GrowthStep
+grows s (SetSpeed n x) = []
+grows s (SetBlossom n b) = []
+grows s (AddDefectVertex v n) = []
+grows s FindObstacle = []
+grows s (GrowBy l) = record { before = s; length = l } ∷ []
+grows s (LoadDefectsExternal t) = []
+
+-- "A growth step is a completed Grow"
+abbrev pub ifDone : List GrowthStep → Answer → List GrowthStep
+ifDone es (Found f) = es
+ifDone es (Refused r) = []
 
 module _ (g : Graph) where
   unfoldable pub wasStalled : State → ℕ → Bool
@@ -55,17 +67,8 @@ module _ (g : Graph) where
 
   -- ---- the growth steps that a call adds, the last one first
 
-  abbrev pub ifDone : GrowthStep → Answer → List GrowthStep
-  ifDone e (Found f) = e ∷ []
-  ifDone e (Refused r) = []
-
   unfoldable pub ofInstruction : State → Instruction → List GrowthStep
-  ofInstruction s (SetSpeed n x) = []
-  ofInstruction s (SetBlossom n b) = []
-  ofInstruction s (AddDefectVertex v n) = []
-  ofInstruction s FindObstacle = []
-  ofInstruction s (GrowBy l) = ifDone (record { before = s; length = l }) (instruct g s (GrowBy l) .answer)
-  ofInstruction s (LoadDefectsExternal t) = []
+  ofInstruction s i = ifDone (grows s i) (instruct g s i .answer)
 
   -- the steps since the last reset, where es were those before the call
   abbrev pub afterWord : State → List GrowthStep → Unpacked → List GrowthStep
@@ -79,7 +82,7 @@ module _ (g : Graph) where
   noted s es clear = []
   noted s es (seek m) = pick (ltb m 2_147_483_648) (search g (withMaximum m s) .walk .trail ++ es) es
   noted s es seekOn = search g s .walk .trail ++ es
-  noted s es (list room) = es
+  noted s es (look l) = es
 
   unfoldable pub ledger : State → List GrowthStep → List Call → List GrowthStep
   ledger s es [] = es

@@ -2,44 +2,25 @@
 mod input;
 
 use crate::input::refill;
-use listing::bad_line;
-use listing::first_line;
+use records::Stop;
 use rules::graph::Graph;
 use rules::graph::Opening;
-use rules::refusal::Refusal;
 use rules::state::State;
-use session::end_of_input;
 use session::run_chunk;
+use text_out::gets_on;
+use text_out::put;
+use text_out::show_end;
+use text_out::show_head;
+use text_out::show_refusal;
 ghost use Prim.Native.Nat.{_≤_};
 ghost use lib.ListN.{length};
 
-// Writes the first n bytes, and answers whether all of them were written.
-fn put(text: &[u8], n: usize) -> bool {
-    if text.len() < n {
-        return false;
+fn wants_bytes(stop: Stop) -> bool {
+    match stop {
+        Stop::WantsBytes => true,
+        Stop::WantsRoom => false,
+        Stop::Ended => false,
     }
-    io::write_all(libc::STDOUT_FILENO, &text[0..n])
-}
-
-fn show_refusal(out: &mut [u8], why: Refusal) {
-    let n = bad_line(out, 0, why);
-    put(out, n);
-}
-
-// A number of vertices, edges or units: an image has at most 1,024 of each.
-fn count(n: usize) -> u32 {
-    if n < 1_024 { n as u32 } else { 1_024 }
-}
-
-// Whether the first line was written.
-fn show_head(out: &mut [u8], graph: Graph, units: usize) -> bool {
-    let n = first_line(out, 0, count(graph.nv), count(graph.ne), count(units));
-    put(out, n)
-}
-
-fn show_end(out: &mut [u8], left: usize) {
-    let n = end_of_input(left, out);
-    put(out, n);
 }
 
 // What was read and is not used yet stands from `from` to `to`. The input may never end, so the turns are counted down from a number that no
@@ -54,15 +35,16 @@ fn replay(graph: Graph, first: State, input: &mut [u8], start: usize, read: usiz
     while 0 < turns {
         turns -= 1;
         let done = run_chunk(graph, state, &input[from..to], out);
+        let stop = done.stop;
         state = done.state;
         from += done.used;
         if !put(out, done.written) {
             return;
         }
-        if done.ended {
+        if !gets_on(stop, done.used) {
             return;
         }
-        if done.used == 0 {
+        if wants_bytes(stop) {
             let left = to - from;
             to = refill(input, from, to);
             from = 0;
@@ -88,7 +70,9 @@ fn main() {
     let decoder = comb::open(&input[0..n]);
     let opening = decoder.opening;
     match opening {
-        Opening::Refused(why) => show_refusal(&mut out, why),
+        Opening::Refused(why) => {
+            show_refusal(&mut out, why);
+        }
         Opening::Accepted { units, start } => {
             let graph = decoder.graph;
             let state = decoder.state;

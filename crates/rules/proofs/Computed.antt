@@ -1,17 +1,15 @@
 -- What the definitions make of an image and its session, computed.
 use Prim.Native.Nat.{ℕ, zero, suc}
 use Prim.Native.String.{String}
-use mathlib.Core.Bool.{Bool, true, false}
 use mathlib.Core.List.{List, [], _∷_, _++_}
 use lib.Dec.{eqb}
 use lib.ListN.{take, drop}
-use Rattle.laws.specs.Fold.{bit}
-use Rattle.rules.specs.Numbers.{speedCode}
 use Rattle.laws.specs.Choice.{_and_, _or_, pick}
-use Rattle.laws.specs.Fold.{upTo}
+use Rattle.laws.specs.Fold.{bit, upTo}
 use Rattle.laws.specs.First.{first}
 use Rattle.laws.specs.Table.{tableFrom, table, paintFrom, paint}
 use Rattle.laws.specs.Listed.{indices, slots}
+use Rattle.rules.specs.Numbers.{speedCode}
 use Rattle.rules.specs.Registers
 use Rattle.rules.specs.Graph
 use Rattle.rules.specs.Fetch
@@ -34,9 +32,11 @@ use Rattle.rules.specs.declared.index.NodeIndex.{NodeIndex}
 use Rattle.rules.specs.declared.registers.VertexRegisters.{VertexRegisters}
 use Rattle.rules.proofs.Text.{hex}
 
--- what to look at: the whole listing; the registers at the end; the fetch weights at the start
-pub data Look : Type 0 where
-  listing registers weights : Look
+-- what is seen of an image and its session: the whole listing; the registers at the end; the fetch weights at the start; the lines that
+-- answer other calls
+pub data Aspect : Type 0 where
+  listing registers weights : Aspect
+  lines : List Run.Call → Aspect
 
 -- a node or root: its number, `-` for none, `v` for virtual
 abbrev nodeText : NodeIndex → List ℕ
@@ -52,7 +52,7 @@ unfoldable registerLines : List ℕ → ℕ → ℕ → List ℕ
 registerLines rs v zero = []
 registerLines rs v (suc n) = registerLine v (Registers.at rs v) ++ registerLines rs (suc v) n
 
-unfoldable pub computed : Look → String → List ℕ
+unfoldable pub computed : Aspect → String → List ℕ
 unfolding _and_ _or_ pick upTo first tableFrom table paintFrom paint indices slots
     Registers.speedOf Registers.view Registers.keep Registers.at Registers.fresh
     Graph.layerOf Graph.hasLayer Graph.defaultVirtual Graph.leftOf Graph.rightOf Graph.conditionOf Graph.touches Graph.farEnd Graph.unitOf
@@ -68,14 +68,14 @@ unfolding _and_ _or_ pick upTo first tableFrom table paintFrom paint indices slo
     Reduce.someOdd Reduce.vertexFinding Reduce.finding
     Words.fieldOf Words.isKind Words.kindIn Words.kindOfWord Words.speedAsked Words.asks Words.unpacked Words.inBounds
     State.freshRegisters State.freshState State.reset State.firstState
-    Instruct.concluded Instruct.settled Instruct.step Instruct.instruct Instruct.wordRun
+    Instruct.concluded Instruct.settled Instruct.step Instruct.barred Instruct.instruct Instruct.wordRun
     Pairs.pairs Pairs.listed
     Search.growBy Search.afterFinding Search.turn Search.walked Search.search Search.searchOn Search.searchTo
     Image.byteAt Image.u16At Image.u32At Image.isImage Image.fusion Image.offloading Image.headRefusal Image.vertexRefusal Image.isEnd Image.edgesAt
     Image.edgeRefusal Image.unitRefusal Image.imageRefusal Image.vertexWord Image.condition Image.edgeWord Image.unitWord Image.fusionWord
     Image.isConditioned Image.unitWords Image.graphOf Image.opened
-    Run.call
-    Listing.digits Listing.decimal Listing.recordCall Listing.session Listing.listing hex registerLines
+    Run.call Run.replies
+    Listing.digits Listing.decimal Listing.lines Listing.recordCall Listing.session Listing.listing hex registerLines
 computed listing input = Listing.listing (hex input)
 computed registers input =
     let bs = hex input in
@@ -84,3 +84,6 @@ computed registers input =
 computed weights input =
     let g = Image.opened (hex input) .graph in
     take (g .ne) (Fetch.fetched (g .edges) (State.firstState g .registers) (g .weights) (g .ne))
+computed (lines calls) input =
+    let g = Image.opened (hex input) .graph in
+    Listing.lines (Run.replies g (State.firstState g) calls)

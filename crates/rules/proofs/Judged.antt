@@ -6,21 +6,24 @@ use mathlib.Core.List.{List, [], _∷_, map}
 use Rattle.laws.specs.Choice.{_and_, pick}
 use Rattle.laws.specs.First.{first}
 use Rattle.rules.specs.Words.{fieldOf, isKind, kindIn, kindOfWord, speedAsked, asks, unpacked, inBounds, wordOf, wordFor, packed, packedReset}
+use Rattle.rules.specs.Run.{list, Call, execute, look}
 use Rattle.rules.specs.declared.instruction.CompactGrowState.the-variants.{Grow}
 use Rattle.rules.specs.declared.instruction.Instruction.{Instruction}
-use Rattle.rules.specs.declared.instruction.Instruction.the-variants.{SetSpeed, SetBlossom, AddDefectVertex, Grow as GrowBy, LoadDefectsExternal}
+use Rattle.rules.specs.declared.instruction.Instruction.the-variants.{SetSpeed, SetBlossom, AddDefectVertex, FindObstacle, Grow as GrowBy, LoadDefectsExternal}
 use Rattle.rules.specs.declared.instruction.Unpacked.{Unpacked}
 use Rattle.rules.specs.declared.instruction.Unpacked.the-variants.{Says, Reset, Refused}
 use Rattle.rules.specs.declared.instruction.Packed.{Packed}
 use Rattle.rules.specs.declared.instruction.Packed.the-variants as P
 use Rattle.rules.specs.declared.refusal.Refusal.the-variants.{NotCarried, OutOfBounds}
 use Rattle.rules.proofs.Text.{text}
-use Rattle.rules.proofs.Computed.{Look, listing, registers, weights, computed}
+use Rattle.rules.proofs.Computed.{Aspect, listing, registers, weights, lines, computed}
 
 pub data Example : Type 0 where
   -- an image and its session in hex, and what is seen of it
-  replays : Look → String → String → Example
+  replays : Aspect → String → String → Example
   fetches : String → List ℕ → Example
+  -- an image in hex, calls on its graph, and the line that answers each
+  answers : String → List Call → String → Example
   -- a word, and what it asks; an instruction, and its word; reset's word
   carries : ℕ → Unpacked → Example
   packs : Instruction → Packed → Example
@@ -33,15 +36,17 @@ pub data Seen : Type 0 where
 
 unfoldable pub sees : Example → Seen
 unfolding computed _and_ pick first fieldOf isKind kindIn kindOfWord speedAsked asks unpacked inBounds wordOf wordFor packed packedReset
-sees (replays look input output) = numbers (computed look input)
+sees (replays aspect input output) = numbers (computed aspect input)
 sees (fetches input output) = numbers (computed weights input)
+sees (answers input calls output) = numbers (computed (lines calls) input)
 sees (carries w u) = asked (unpacked w)
 sees (packs i w) = word (packed i)
 sees (resets w) = word packedReset
 
 abbrev pub expects : Example → Seen
-expects (replays look input output) = numbers (text output)
+expects (replays aspect input output) = numbers (text output)
 expects (fetches input output) = numbers output
+expects (answers input calls output) = numbers (text output)
 expects (carries w u) = asked u
 expects (packs i w) = word w
 expects (resets w) = word (P.Word w)
@@ -126,90 +131,31 @@ examples =
     ∷ replays listing
     "444354 0100 01 0200 0100 0000 000500 00FFFF 00000100080000000000 0006000200 002C000A00 0004000000"
     "DCT 1 2 1 0\ni g 4\ni g 4\ni g 8\n"
+    -- the first of two peers leads vertex 0, so that its conflict is with the second
+    ∷ replays listing
+    "444354 0100 00 0300 0200 0000 00FFFF 00FFFF 00FFFF 0000010000000000FFFF 0000020000000000FFFF 0006000200 000A000400"
+    "DCT 1 3 2 0\ni g 0\ni c 1 2 1 2 0 2\n"
     -- a search, a reset, a search with what is left
     ∷ replays listing
     "444354 0100 00 0200 0100 0000 00FFFF 00FFFF 0000010004000000FFFF 0002000000 0006000200 0101000000 0024000000 0002000000 0200000000"
     "DCT 1 2 1 0\ni g 4\ni g 2\ns g 0 1 1 0\nz\ni g 4\ns g 0 0 0 0\n"
     -- refusals, each at its smallest
-    -- 1: another mark; version 2; a third flag; 11 bytes
-    ∷ replays listing
-    "444355 0100 00 0100 0000 0000 00FFFF"
-    "bad 1\n"
-    ∷ replays listing
-    "444354 0200 00 0100 0000 0000 00FFFF"
-    "bad 1\n"
-    ∷ replays listing
-    "444354 0100 04 0100 0000 0000 00FFFF"
-    "bad 1\n"
-    ∷ replays listing
-    "444354 0100 00 0100 0000 00"
-    "bad 1\n"
-    -- 2, 3, 4: V 0 and 257, E and U 1,025
-    ∷ replays listing
-    "444354 0100 00 0000 0000 0000"
-    "bad 2\n"
-    ∷ replays listing
-    "444354 0100 00 0101 0104 0000"
-    "bad 2\n"
-    ∷ replays listing
-    "444354 0100 00 0001 0104 0104"
-    "bad 3\n"
-    ∷ replays listing
-    "444354 0100 00 0001 0004 0104"
-    "bad 4\n"
-    -- 5: a byte is missing; no record is looked at before
+    -- 5 is looked at before any record
     ∷ replays listing
     "444354 0100 00 0100 0000 0000 02FF"
     "bad 5\n"
-    -- 6: default virtual 2; layer 32,768
-    ∷ replays listing
-    "444354 0100 00 0100 0000 0000 02FFFF"
-    "bad 6\n"
-    ∷ replays listing
-    "444354 0100 00 0100 0000 0000 000080"
-    "bad 6\n"
-    -- 7: an end not below V; a loop. 8 is looked at after 7
+    -- 7 before 8: an end not below V, weight 1,000,001
     ∷ replays listing
     "444354 0100 00 0200 0100 0000 00FFFF 00FFFF 0000020041420F00FFFF"
     "bad 7\n"
-    ∷ replays listing
-    "444354 0100 00 0200 0100 0000 00FFFF 00FFFF 0100010004000000FFFF"
-    "bad 7\n"
-    -- 8: weight 1,000,001; 9 is looked at after it
-    ∷ replays listing
-    "444354 0100 00 0300 0100 0000 00FFFF 00FFFF 00FFFF 0000010041420F000200"
-    "bad 8\n"
-    ∷ replays listing
-    "444354 0100 00 0200 0100 0000 00FFFF 00FFFF 0000010040420F00FFFF"
-    "DCT 1 2 1 0\n"
     -- 9: conditioned on a vertex that is no end, also without fusion
     ∷ replays listing
     "444354 0100 00 0300 0100 0000 00FFFF 00FFFF 00FFFF 00000100040000000200"
     "bad 9\n"
-    -- 10: the 17th edge of vertex 0; 16 are taken
-    ∷ replays listing
-    "444354 0100 00 0200 1100 0000 00FFFF 00FFFF 0000010004000000FFFF 0000010004000000FFFF 0000010004000000FFFF 0000010004000000FFFF 0000010004000000FFFF 0000010004000000FFFF 0000010004000000FFFF 0000010004000000FFFF 0000010004000000FFFF 0000010004000000FFFF 0000010004000000FFFF 0000010004000000FFFF 0000010004000000FFFF 0000010004000000FFFF 0000010004000000FFFF 0000010004000000FFFF 0000010004000000FFFF"
-    "bad 10\n"
-    ∷ replays listing
-    "444354 0100 00 0200 1000 0000 00FFFF 00FFFF 0000010004000000FFFF 0000010004000000FFFF 0000010004000000FFFF 0000010004000000FFFF 0000010004000000FFFF 0000010004000000FFFF 0000010004000000FFFF 0000010004000000FFFF 0000010004000000FFFF 0000010004000000FFFF 0000010004000000FFFF 0000010004000000FFFF 0000010004000000FFFF 0000010004000000FFFF 0000010004000000FFFF 0000010004000000FFFF"
-    "DCT 1 2 16 0\n"
-    -- 11: kind 2; edge not below E; a vertex for kind 0; no end for kind 1; also without offloading
-    ∷ replays listing
-    "444354 0100 00 0200 0100 0100 00FFFF 00FFFF 0000010004000000FFFF 020000FFFF"
-    "bad 11\n"
-    ∷ replays listing
-    "444354 0100 00 0200 0100 0100 00FFFF 00FFFF 0000010004000000FFFF 000100FFFF"
-    "bad 11\n"
-    ∷ replays listing
-    "444354 0100 00 0200 0100 0100 00FFFF 00FFFF 0000010004000000FFFF 0000000000"
-    "bad 11\n"
-    ∷ replays listing
-    "444354 0100 00 0300 0100 0100 00FFFF 00FFFF 00FFFF 0000010004000000FFFF 0100000200"
-    "bad 11\n"
     -- 12, and 13 for a negative maximum, which is no search begun; 18 for another kind ends the replay
     ∷ replays listing
-    "444354 0100 00 0200 0100 0000 00FFFF 00FFFF 0000010004000000FFFF 0003000000 003C000000 0100000080 0200000000 0400000000 0300000000"
-    "DCT 1 2 1 0\nr 12\nr 12\nr 13\ns g max 0 0 2147483647\nr 18\n"
+    "444354 0100 00 0200 0100 0000 00FFFF 00FFFF 0000010004000000FFFF 0003000000 0100000080 0200000000 0400000000 0300000000"
+    "DCT 1 2 1 0\nr 12\nr 13\ns g max 0 0 2147483647\nr 18\n"
     -- 18: a record cut short
     ∷ replays listing
     "444354 0100 00 0200 0100 0000 00FFFF 00FFFF 0000010004000000FFFF 00040000"
@@ -218,6 +164,21 @@ examples =
     ∷ replays listing
     "444354 0100 00 0200 0000 0000 00FFFF 00FFFF 0002000000 00F4FFFFFF 0006000200 0000000300 0074000000"
     "DCT 1 2 0 0\ni g max\ni g max\ni g max\ni g 0\nr 15\n"
+    -- 14 before 16: vertex 1 at Shrink would show the node of 0 against 2, with 1 remaining
+    ∷ replays listing
+    "444354 0100 00 0300 0200 0000 00FFFF 00FFFF 00FFFF 0000010001000000FFFF 0100020002000000FFFF 0006000200 0000000300 0002000000 000A000400 0074000000"
+    "DCT 1 3 2 0\ni g 1\ni g 0\ni g 0\ni g 0\nr 14\n"
+    -- 13 for a vertex that no word can carry, and 19, by calls: edge 0-1 of weight 0 with a DefectMatch
+    ∷ answers
+    "444354 0100 02 0200 0100 0100 00FFFF 00FFFF 0000010000000000FFFF 000000FFFF"
+    (execute (AddDefectVertex (record { 0 = 40_000 }) (record { 0 = 0 }))
+    ∷ execute (AddDefectVertex (record { 0 = 0 }) (record { 0 = 0 }))
+    ∷ execute (AddDefectVertex (record { 0 = 1 }) (record { 0 = 1 }))
+    ∷ execute FindObstacle
+    ∷ look (list 0)
+    ∷ look (list 1)
+    ∷ [])
+    "r 13\ni g max\ni c 0 1 0 1 0 1\ni g max\nr 19\np 0\n"
     ∷ []
 
 pub judged : map sees examples ≡ map expects examples

@@ -1,4 +1,4 @@
+pub mod Round
 pub mod Text
 pub mod Computed
 pub mod Judged
-pub mod Recorded

@@ -1,6 +1,6 @@
 -- Stage 1: fetch weight, tight, counted tight, tight count. rs holds the registers before the instruction.
 use Prim.Native.Nat.{ℕ, _+_, _*_, _/_}
-use mathlib.Core.Bool.{Bool, true, false, not}
+use mathlib.Core.Bool.{Bool, not}
 use mathlib.Core.List.{List}
 use lib.Dec.{leb, ltb}
 use lib.ListN.{getD, replicate}

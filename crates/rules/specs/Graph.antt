@@ -1,6 +1,6 @@
 -- What the entries of a graph's tables say, and how much of a graph is in use.
-use Prim.Native.Nat.{ℕ, zero, suc, _/_, _%_, min}
-use mathlib.Core.Bool.{Bool, true, false, not}
+use Prim.Native.Nat.{ℕ, suc, _/_, _%_, min}
+use mathlib.Core.Bool.{Bool, not}
 use mathlib.Core.List.{List}
 use lib.Dec.{eqb, ltb}
 use lib.ListN.{getD}
@@ -50,8 +50,10 @@ unitOf w =
     (pick (eqb (w / 262_144) 1) (VirtualMatch (record { 0 = w % 1_024 }) (record { 0 = w / 1_024 % 256 }))
     (FusionMatch (record { 0 = w % 1_024 }) (record { 0 = w / 1_024 % 256 })))
 
--- ---- what is in use. An image gives no graph with a loop or a 17th edge at a vertex (7, 10); of a graph that has one, the edges before it
--- are in use. So each graph is a graph of document 01's, and the counts fit the tables.
+-- ---- what is in use: at most 256 vertices, 2,048 units, and of the first 1,024 edges those before the first that is a loop or some end's
+-- 17th (7 and 10 in an image). So each count fits its table, and each vertex has at most 16 edges, none of them a loop. Nothing else is
+-- looked at: there may be no vertex; an edge may end at a vertex that is not in use, or be conditioned on one or on no end of its own; a
+-- unit may name an edge that is not in use, or a vertex that is no end of it; a weight may be over 1,000,000. An image gives none of these.
 
 module _ (es : List ℕ) where
   -- how many of the edges before n are v's

@@ -1,7 +1,7 @@
 -- Document 01, "The DCT image, version 1": what its bytes say, and the refusals 1 to 11 in order of checking.
 use Prim.Native.Nat.{ℕ, _+_, _*_}
 use mathlib.Core.Bool.{Bool, true, false, not}
-use mathlib.Core.List.{List, [], _∷_, _++_, map}
+use mathlib.Core.List.{List, [], _++_, map}
 use mathlib.Core.Option.{Option, none, some}
 use lib.Dec.{eqb, leb, ltb}
 use lib.ListN.{getD, length, replicate}
@@ -12,7 +12,6 @@ use Rattle.laws.specs.Listed.{indices, slots}
 use Rattle.laws.specs.Table.{table, paint}
 use Rattle.rules.specs.declared.graph.Graph.{Graph}
 use Rattle.rules.specs.declared.graph.Opened.{Opened}
-use Rattle.rules.specs.declared.graph.Opening.{Opening}
 use Rattle.rules.specs.declared.graph.Opening.the-variants.{Accepted, Refused}
 use Rattle.rules.specs.declared.refusal.Refusal.{Refusal}
 use Rattle.rules.specs.declared.refusal.Refusal.the-variants as R

@@ -1,6 +1,6 @@
 -- One instruction: the eight stages, and the refusals 13 to 16. A word: 12 first.
 use Prim.Native.Nat.{ℕ}
-use mathlib.Core.Bool.{Bool, true, false}
+use mathlib.Core.Bool.{Bool}
 use mathlib.Core.List.{List}
 use mathlib.Core.Option.{Option, none, some}
 use Rattle.laws.specs.Choice.{pick}
@@ -17,7 +17,6 @@ use Rattle.rules.specs.declared.graph.Graph.{Graph}
 use Rattle.rules.specs.declared.state.State.{State}
 use Rattle.rules.specs.declared.state.Cycle.{Cycle}
 use Rattle.rules.specs.declared.state.WordCycle.{WordCycle}
-use Rattle.rules.specs.declared.finding.Finding.{Finding}
 use Rattle.rules.specs.declared.finding.Answer.{Answer}
 use Rattle.rules.specs.declared.finding.Answer.the-variants.{Found, Refused}
 use Rattle.rules.specs.declared.finding.WordAnswer.{WordAnswer}
@@ -70,9 +69,16 @@ module _ (g : Graph) where
       let stalled = verticesStalled s in
       carried s (executed (g .vertices) (s .registers) stalled i (g .nv)) (executeRefusal (g .vertices) (s .registers) stalled i (g .nv))
 
--- "13: decoder as before"
+  -- why an instruction is not carried out at all: "13: .. decoder as before"
+  unfoldable pub barred : Instruction → Option Refusal
+  barred i = pick (inBounds i) none (some OutOfBounds)
+
+  abbrev pub unlessBarred : State → Instruction → Option Refusal → Cycle
+  unlessBarred s i none = step s i
+  unlessBarred s i (some n) = refused s n
+
 unfoldable pub instruct : Graph → State → Instruction → Cycle
-instruct g s i = pick (inBounds i) (step (inUse g) s i) (refused s OutOfBounds)
+instruct g s i = unlessBarred (inUse g) s i (barred (inUse g) i)
 
 -- ---- a word
 

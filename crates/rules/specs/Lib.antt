@@ -1,6 +1,5 @@
 pub mod Numbers
 pub mod Registers
-pub mod Round
 pub mod Graph
 pub mod Fetch
 pub mod Units

@@ -1,6 +1,5 @@
 -- Document 01, "Replay listing": session records in, lines out, as bytes.
 use Prim.Native.Nat.{ℕ, zero, suc, _+_, _*_, _/_, _%_}
-use mathlib.Core.Bool.{Bool, true, false}
 use mathlib.Core.List.{List, [], _∷_, _++_}
 use mathlib.Core.Option.{Option, none, some}
 use lib.Dec.{ltb}
@@ -9,7 +8,7 @@ use Rattle.laws.specs.Choice.{pick}
 use Rattle.rules.specs.Numbers.{refusalNumber}
 use Rattle.rules.specs.State.{firstState}
 use Rattle.rules.specs.Image.{opened, vertexCount, edgeCount}
-use Rattle.rules.specs.Run.{Call, word, seek, seekOn, list, Reply, executed, carried, cleared, found, paired, call}
+use Rattle.rules.specs.Run.{list, Call, word, seek, seekOn, look, Reply, executed, carried, cleared, found, paired, call}
 use Rattle.rules.specs.declared.graph.Graph.{Graph}
 use Rattle.rules.specs.declared.graph.Opening.{Opening}
 use Rattle.rules.specs.declared.graph.Opening.the-variants.{Accepted, Refused}
@@ -88,11 +87,16 @@ replyText (found (S.Stopped r t) left) = refusalText r ++ tallyText t left
 replyText (paired (L.Count n) es) = 112 ∷ numbers es
 replyText (paired (L.Refused r) es) = refusalText r
 
+-- "one line per record"
+unfoldable pub lines : List Reply → List ℕ
+lines [] = []
+lines (r ∷ rs) = line (replyText r) ++ lines rs
+
 -- ---- session records: "five bytes each: kind and u32 value"
 
 -- "0: instruction word. 1: search with the value as new maximum. 2: search with what is left. 3: list pairs. Kinds 2 and 3 ignore the value"
 unfoldable pub recordCall : ℕ → ℕ → Option Call
-recordCall kind value = getD (some (word value) ∷ some (seek value) ∷ some seekOn ∷ some (list 1_024) ∷ []) kind none
+recordCall kind value = getD (some (word value) ∷ some (seek value) ∷ some seekOn ∷ some (look (list 1_024)) ∷ []) kind none
 
 abbrev pub valueOf : ℕ → ℕ → ℕ → ℕ → ℕ
 valueOf a b c d = a + b * 256 + c * 65_536 + d * 16_777_216

@@ -9,9 +9,7 @@ use Rattle.rules.specs.Instruct.{step}
 use Rattle.rules.specs.State.{withMaximum}
 use Rattle.rules.specs.declared.graph.Graph.{Graph}
 use Rattle.rules.specs.declared.state.State.{State}
-use Rattle.rules.specs.declared.state.Cycle.{Cycle}
 use Rattle.rules.specs.declared.state.Searched.{Searched}
-use Rattle.rules.specs.declared.finding.Length.{Length}
 use Rattle.rules.specs.declared.finding.Length.the-variants.{NoLimit, Ahead, Behind}
 use Rattle.rules.specs.declared.finding.Node.{Node}
 use Rattle.rules.specs.declared.finding.Node.the-variants.{Absent, Number}
@@ -24,7 +22,6 @@ use Rattle.rules.specs.declared.finding.Tally.{Tally}
 use Rattle.rules.specs.declared.finding.Sought.{Sought}
 use Rattle.rules.specs.declared.finding.Sought.the-variants as S
 use Rattle.rules.specs.declared.instruction.Instruction.the-variants.{FindObstacle, Grow}
-use Rattle.rules.specs.declared.refusal.Refusal.{Refusal}
 use Rattle.rules.specs.declared.refusal.Refusal.the-variants.{OutOfBounds, NegativeLength}
 
 -- "A growth step is a completed Grow, sent as an instruction or made by a search": its length, and the state before it
@@ -102,6 +99,7 @@ module _ (g : Graph) where
   unfoldable pub turn : Walk → Turned
   turn c = let found = step g (c .state) FindObstacle in afterFinding (atState c (found .state)) (found .answer)
 
+  -- so many turns at most. A search is given enough (`ends-within` in promises), so the case without any is never reached
   unfoldable pub walked : ℕ → Walk → Ended
   walked zero c = ends c (Found (GrowLength (Ahead 0)))
   walked (suc n) c = next (λ d. walked n d) (turn c)

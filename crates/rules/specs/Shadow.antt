@@ -1,6 +1,6 @@
 -- Stage 6: what edges see of a vertex. xs holds the registers after stage 3, ys those after stage 5.
 use Prim.Native.Nat.{ℕ}
-use mathlib.Core.Bool.{Bool, true, false}
+use mathlib.Core.Bool.{Bool, false}
 use mathlib.Core.List.{List}
 use lib.Dec.{eqb}
 use lib.ListN.{getD}

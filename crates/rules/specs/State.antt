@@ -1,6 +1,6 @@
 -- A decoder's state: the first one, and what a reset leaves.
 use Prim.Native.Nat.{ℕ}
-use mathlib.Core.Bool.{Bool, true, false}
+use mathlib.Core.Bool.{false}
 use mathlib.Core.List.{List}
 use lib.ListN.{replicate}
 use Rattle.laws.specs.Choice.{_or_}

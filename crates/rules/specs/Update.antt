@@ -1,6 +1,6 @@
 -- Stage 5: the registers that are written. xs holds the registers after stage 3.
 use Prim.Native.Nat.{ℕ}
-use mathlib.Core.Bool.{Bool, true, false, not}
+use mathlib.Core.Bool.{Bool, not}
 use mathlib.Core.List.{List}
 use lib.Dec.{eqb}
 use Rattle.laws.specs.Choice.{_and_, pick}

@@ -9,3 +9,4 @@ pub mod refusal;
 pub mod registers;
 pub mod settle;
 pub mod state;
+pub mod tables;

@@ -2,12 +2,15 @@
 use crate::finding::Answer;
 use crate::finding::Sought;
 use crate::finding::WordAnswer;
+use crate::tables::Registers;
+use crate::tables::Stalls;
+use crate::tables::Weights;
 
 // Registers of the vertices, weight registers of the edges, the pair list as a flag for each edge, and the maximum.
 pub struct State {
-    pub registers: [u64; 256],
-    pub weights: [u32; 1024],
-    pub stalled: [bool; 1024],
+    pub registers: Registers,
+    pub weights: Weights,
+    pub stalled: Stalls,
     pub maximum: u32,
 }
 

@@ -2,7 +2,7 @@
 use Prim.Native.Nat.{ℕ}
 use mathlib.Core.Path.{_≡_, _∙_}
 use mathlib.Core.Bool.{Bool, true, false}
-use mathlib.Core.List.{List}
+use mathlib.Core.List.{List, []}
 use mathlib.Core.Option.{Option, none, some}
 use lib.ListN.{length, replicate, length-replicate, length-set}
 use Rattle.laws.specs.Choice.{by-test}
@@ -10,11 +10,10 @@ use Rattle.laws.specs.Fold.{upTo-keeps}
 use Rattle.rules.specs.Units.{stalledEdges}
 use Rattle.rules.specs.State.{freshState}
 use Rattle.rules.specs.Run.{Call, call}
-use Rattle.rules.specs.Listing.{recordCall}
 use Rattle.rules.specs.declared.graph.Graph.{Graph}
 use Rattle.rules.specs.declared.state.State.{State}
 use Rattle.promises.proofs.Reached.{call-keeps}
-use Rattle.session.specs.Chunk.{recordedBy, recorded}
+use Rattle.records.specs.Session.{actedBy}
 
 abbrev AllFlags : List Bool → Type 0
 AllFlags flags = length flags ≡ 1_024
@@ -31,13 +30,9 @@ module _ (g : Graph) where
 
   call-flags : (s : State) (q : Call) → AllFlags (s .stalled) → AllFlags (call g s q .state .stalled)
   call-flags s q h =
-      call-keeps g (λ t. AllFlags (t .stalled)) fresh-flags (λ m t p. p) (λ t u i f b p done. rw (done .stalled) (units-flags _ _ _ _ _ _)) s q h
+      call-keeps g (λ t es. AllFlags (t .stalled)) fresh-flags (λ m t es p. p) (λ t u i f es b p done. rw (done .stalled) (units-flags _ _ _ _ _ _)) s q [] h
 
-  flags-by : (s : State) (q : Option Call) → AllFlags (s .stalled) → AllFlags (recordedBy g s q .state .stalled)
-  unfolding recordedBy
-  flags-by s none h = h
-  flags-by s (some q) h = call-flags s q h
-
-  pub record-flags : (s : State) (kind value : ℕ) → length (s .stalled) ≡ 1_024 → length (recorded g s kind value .state .stalled) ≡ 1_024
-  unfolding recorded
-  record-flags s kind value h = flags-by s (recordCall kind value) h
+  pub acted-flags : (s : State) (q : Option Call) → length (s .stalled) ≡ 1_024 → length (actedBy g s q .state .stalled) ≡ 1_024
+  unfolding actedBy
+  acted-flags s none h = h
+  acted-flags s (some q) h = call-flags s q h

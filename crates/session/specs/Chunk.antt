@@ -1,55 +1,50 @@
--- A chunk of session records: as many of them as are whole and find room for their lines.
-use Prim.Native.Nat.{ℕ, _+_, _-_}
-use mathlib.Core.Bool.{Bool, true, false}
-use mathlib.Core.List.{List, [], _∷_, _++_}
-use mathlib.Core.Option.{Option, none, some}
-use lib.Dec.{leb, eqb}
+-- What the work on a chunk of session records answers, and the work at the end of the input.
+use Prim.Native.Nat.{ℕ}
+use mathlib.Core.Bool.{Bool, not}
+use mathlib.Core.List.{List}
+use lib.Dec.{leb, ltb}
 use lib.ListN.{length}
-use Rattle.laws.specs.Choice.{pick}
-use Rattle.rules.specs.Run.{Call, call}
-use Rattle.rules.specs.Listing.{line, replyText, refusalText, recordCall, valueOf}
+use Rattle.laws.specs.Choice.{_and_, pick}
+use Rattle.laws.specs.Placed.{placed}
 use Rattle.rules.specs.declared.graph.Graph.{Graph}
 use Rattle.rules.specs.declared.state.State.{State}
-use Rattle.rules.specs.declared.refusal.Refusal.the-variants.{SessionRecord}
+use Rattle.records.specs.Chunks as Any
+use Rattle.records.specs.Session.{behind, acted}
+use Rattle.records.specs.declared.Stop.{Stop}
+use Rattle.records.specs.declared.Stop.the-variants.{WantsBytes, WantsRoom, Ended}
 use Rattle.listing.specs.Lines.{longestPairs}
+use Rattle.session.specs.declared.Done.{Done}
+use Rattle.session.specs.declared.Last.{Last}
+use Rattle.session.specs.declared.Last.the-variants as L
 
--- the lines, the state that is left, how many bytes were used, and whether the replay ended
-pub record Chunk : Type 0 where
-  pub text : List ℕ
-  pub state : State
-  pub used : ℕ
-  pub ended : Bool
+-- as many of the records as are whole and find room for the longest line, which is a pair list
+abbrev pub chunk : Graph → State → ℕ → List ℕ → Any.Chunk State
+chunk g s room bs = Any.chunk (acted g) behind longestPairs s room bs
 
--- nothing done: too few bytes for a record, or too little room for the longest line
-abbrev pub paused : State → Chunk
-paused s = record { text = []; state = s; used = 0; ended = false }
+-- all that a program may do with input that comes in pieces
+abbrev pub Replay : Graph → State → List ℕ → List (List ℕ) → List ℕ → Type 0
+Replay g s held pieces text = Any.Replay (acted g) behind longestPairs s held pieces text
 
--- one, and from the state it left the other
-abbrev pub followed : Chunk → Chunk → Chunk
-followed c d = record { text = c .text ++ d .text; state = d .state; used = c .used + d .used; ended = d .ended }
+-- what is told of a chunk
+abbrev pub doneOf : Any.Chunk State → Done
+doneOf c = record { state = c .state; used = c .used; written = length (c .text); stop = c .stop }
 
-module _ (g : Graph) where
-  -- one record, by its call: "18: session record .. of another kind; replay ends"
-  unfoldable pub recordedBy : State → Option Call → Chunk
-  recordedBy s none = record { text = line (refusalText SessionRecord); state = s; used = 5; ended = true }
-  recordedBy s (some q) = let t = call g s q in record { text = line (replyText (t .reply)); state = t .state; used = 5; ended = false }
+-- whether another record is run, where so many bytes are left and there is so much room
+unfoldable pub goesOn : Bool → ℕ → ℕ → Bool
+goesOn ended left room = not ended and leb 5 left and leb longestPairs room
 
-  unfoldable pub recorded : State → ℕ → ℕ → Chunk
-  recorded s kind value = recordedBy s (recordCall kind value)
+-- why no other is: a record "of another kind; replay ends", one "cut short" so far, or too little room for the longest line
+unfoldable pub stopOf : Bool → ℕ → Stop
+stopOf ended left = pick ended Ended (pick (ltb left 5) WantsBytes WantsRoom)
 
-  -- "five bytes each: kind and u32 value". A record that is cut waits for the rest of its bytes
-  unfoldable pub chunk : State → ℕ → List ℕ → Chunk
-  chunk s room [] = paused s
-  chunk s room (k ∷ []) = paused s
-  chunk s room (k ∷ a ∷ []) = paused s
-  chunk s room (k ∷ a ∷ b ∷ []) = paused s
-  chunk s room (k ∷ a ∷ b ∷ c ∷ []) = paused s
-  chunk s room (k ∷ a ∷ b ∷ c ∷ d ∷ rest) =
-      let one = recorded s k (valueOf a b c d) in
-      pick (leb longestPairs room)
-      (pick (one .ended) one (followed one (chunk (one .state) (room - length (one .text)) rest)))
-      (paused s)
+-- ---- the end of the input, where so many bytes are left
 
--- "18: session record cut short": what the end of input adds, where so many bytes are left
-unfoldable pub endText : ℕ → List ℕ
-endText left = pick (eqb left 0) [] (line (refusalText SessionRecord))
+-- whether the last line finds room: its own length is enough
+unfoldable pub lastFits : ℕ → List ℕ → Bool
+lastFits left out = leb (length (Any.endText left)) (length out)
+
+unfoldable pub lastOf : ℕ → List ℕ → Last
+lastOf left out = pick (lastFits left out) (L.Wrote (length (Any.endText left))) L.WantsRoom
+
+unfoldable pub lastIn : ℕ → List ℕ → List ℕ
+lastIn left out = pick (lastFits left out) (placed 0 (Any.endText left) out) out

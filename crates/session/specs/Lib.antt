@@ -1,3 +1,2 @@
 pub mod Chunk
-pub mod Cuts
-pub mod Ran
+pub mod Calls

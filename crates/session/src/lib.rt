@@ -1,52 +1,40 @@
-// The work on a chunk of session records. A program reads, runs chunks of what it has read, and writes their lines; specs/Cuts.antt proves that
+// The work on a chunk of session records. A program reads, runs chunks of what it has read, and writes their lines; proofs/Cuts.antt proves that
 // however its input is cut, it writes the session's listing.
-mod record;
-
-use crate::record::run_record;
-use comb_cycle::cycle::Counts;
-use comb_lent::counts::counts_of;
+use answer::answer_record;
+use answer::maximum_left;
+use board::Board;
+use lay::lay;
+use listing::answer_line;
 use listing::record_line;
-use places::place_edges;
+use records::Answered;
+use records::Stop;
+use records::value_at;
 use rules::graph::Graph;
 use rules::state::State;
 ghost use mathlib.Core.Path.{_≡_};
-ghost use Prim.Native.Nat.{_+_, _≤_, _<_};
+ghost use Prim.Native.Nat.{_≤_};
 ghost use lib.ListN.{length};
-ghost use Rattle.comb_cycle.specs.Lent.{Ready};
-ghost use Rattle.comb_lent.specs.Whole.{graphIn};
-ghost use Rattle.listing.specs.Lines.{longest, lineEnd, lineIn};
+ghost use Rattle.board.specs.Board.{graphOn, Laid};
 ghost use Rattle.laws.specs.Placed.{placed};
-ghost use Rattle.session.specs.Chunk.{chunk, endText};
-ghost use Rattle.session.specs.Ran.{valueAt, doneOf, goesOn};
+ghost use Rattle.records.specs.Answered.{isUnknown};
+ghost use Rattle.session.specs.Chunk.{chunk, doneOf, goesOn, stopOf, lastOf, lastIn};
 
-// The state that is left, how many bytes were used and written, and whether the replay ended.
+// The state that is left, how many bytes were used and written, and why no more.
 pub struct Done {
     pub state: State,
     pub used: usize,
     pub written: usize,
-    pub ended: bool,
+    pub stop: Stop,
+}
+
+// What the end of the input wrote, or that its line finds no room.
+pub enum Last {
+    Wrote(usize),
+    WantsRoom,
 }
 
 // The longest line of all, as listing's specs/Lines.antt has it.
 const LONGEST_PAIRS: usize = 5122;
-
-fn wide(byte: u8) -> u32
-    ensures { λ r. ⌜ (r ≡ byte) × (r < 256) ⌝ }
-{
-    byte as u32
-}
-
-// "Little-endian"
-fn value_at(bytes: &[u8], at: usize) -> u32
-    requires { ⌜ at + 4 ≤ length (now bytes) ⌝ }
-    ensures { λ r. ⌜ r ≡ valueAt (now (bytes .entry)) at ⌝ }
-{
-    let a = wide(bytes[at]);
-    let b = wide(bytes[at + 1]);
-    let c = wide(bytes[at + 2]);
-    let d = wide(bytes[at + 3]);
-    a + b * 256 + c * 65_536 + d * 16_777_216
-}
 
 // A whole record is left, and room for its line.
 fn goes_on(ended: bool, left: usize, room: usize) -> bool
@@ -55,22 +43,35 @@ fn goes_on(ended: bool, left: usize, room: usize) -> bool
     !ended & (5 <= left) & (LONGEST_PAIRS <= room)
 }
 
+fn stop_of(ended: bool, left: usize) -> Stop
+    ensures { λ r. ⌜ r ≡ stopOf ended left ⌝ }
+{
+    if ended {
+        return Stop::Ended;
+    }
+    if left < 5 {
+        return Stop::WantsBytes;
+    }
+    Stop::WantsRoom
+}
+
+// A record of another kind ends the replay.
+fn is_unknown(answered: Answered) -> bool
+    ensures { λ r. ⌜ r ≡ isUnknown answered ⌝ }
+{
+    match answered {
+        Answered::Word(_) => false,
+        Answered::Search(_, _) => false,
+        Answered::Pairs => false,
+        Answered::Unknown => true,
+    }
+}
+
 // The records on lent tables.
-fn run_records<'a>(
-    counts: Counts,
-    vertices: &'a [u32; 256],
-    edges: &'a [u32; 1024],
-    units: &'a [u32; 2048],
-    degrees: &'a [u8; 256],
-    places: &'a [u32; 4096],
-    defaults: &'a [u32; 1024],
-    state: State,
-    bytes: &[u8],
-    out: &mut [u8],
-) -> Done
-    requires { ⌜ Ready counts (now edges) (now places) (now degrees) ⌝ }
-    ensures { λ r. ⌜ r ≡ doneOf (chunk (graphIn counts (now (vertices .entry)) (now (edges .entry)) (now (units .entry)) (now (defaults .entry))) state (length (now (out .entry))) (now (bytes .entry))) ⌝ }
-    ensures { λ r. ⌜ now (out .exit) ≡ placed 0 (chunk (graphIn counts (now (vertices .entry)) (now (edges .entry)) (now (units .entry)) (now (defaults .entry))) state (length (now (out .entry))) (now (bytes .entry)) .text) (now (out .entry)) ⌝ }
+fn run_records<'a>(board: &'a Board, state: State, bytes: &[u8], out: &mut [u8]) -> Done
+    requires { ⌜ Laid (now board) ⌝ }
+    ensures { λ r. ⌜ r ≡ doneOf (chunk (graphOn (now (board .entry))) state (length (now (out .entry))) (now (bytes .entry))) ⌝ }
+    ensures { λ r. ⌜ now (out .exit) ≡ placed 0 (chunk (graphOn (now (board .entry))) state (length (now (out .entry))) (now (bytes .entry)) .text) (now (out .entry)) ⌝ }
     ensures { λ r. ⌜ (r .used ≤ length (now (bytes .entry))) × (r .written ≤ length (now (out .entry))) ⌝ }
 {
     let mut registers = state.registers;
@@ -84,26 +85,18 @@ fn run_records<'a>(
         let kind = bytes[used];
         let value = value_at(bytes, used + 1);
         used += 5;
-        let step = run_record(
-            counts,
-            vertices,
-            edges,
-            units,
-            degrees,
-            places,
-            defaults,
+        let answered = answer_record(
+            board,
             &mut weights,
             &mut registers,
             &mut stalled,
             maximum,
             kind,
             value,
-            out,
-            written,
         );
-        maximum = step.maximum;
-        written = step.next;
-        ended = step.ended;
+        maximum = maximum_left(maximum, answered);
+        written = answer_line(out, written, answered, &stalled);
+        ended = is_unknown(answered);
     }
     Done {
         state: State {
@@ -114,7 +107,7 @@ fn run_records<'a>(
         },
         used,
         written,
-        ended,
+        stop: stop_of(ended, bytes.len() - used),
     }
 }
 
@@ -124,30 +117,21 @@ pub fn run_chunk(graph: Graph, state: State, bytes: &[u8], out: &mut [u8]) -> Do
     ensures { λ r. ⌜ now (out .exit) ≡ placed 0 (chunk graph state (length (now (out .entry))) (now (bytes .entry)) .text) (now (out .entry)) ⌝ }
     ensures { λ r. ⌜ (r .used ≤ length (now (bytes .entry))) × (r .written ≤ length (now (out .entry))) ⌝ }
 {
-    let wiring = place_edges(&graph.edges, graph.ne);
-    let counts = counts_of(graph.nv, wiring.ne, wiring.reach, graph.nu);
-    run_records(
-        counts,
-        &graph.vertices,
-        &graph.edges,
-        &graph.units,
-        &wiring.degrees,
-        &wiring.places,
-        &graph.weights,
-        state,
-        bytes,
-        out,
-    )
+    let board = lay(graph);
+    run_records(&board, state, bytes, out)
 }
 
-// "18: session record cut short": the last line, where bytes are left when the input ends.
-pub fn end_of_input(left: usize, out: &mut [u8]) -> usize
-    ensures { λ r. ⌜ r ≡ lineEnd longest 0 (endText left) (now (out .entry)) ⌝ }
-    ensures { λ r. ⌜ now (out .exit) ≡ lineIn longest 0 (endText left) (now (out .entry)) ⌝ }
-    ensures { λ r. ⌜ r ≤ length (now (out .entry)) ⌝ }
+// "18: session record cut short": the last line, where bytes are left when the input ends. Without room for it nothing is written.
+pub fn end_of_input(left: usize, out: &mut [u8]) -> Last
+    ensures { λ r. ⌜ r ≡ lastOf left (now (out .entry)) ⌝ }
+    ensures { λ r. ⌜ now (out .exit) ≡ lastIn left (now (out .entry)) ⌝ }
 {
     if left == 0 {
-        return 0;
+        return Last::Wrote(0);
     }
-    record_line(out, 0)
+    let end = record_line(out, 0);
+    if end == 0 {
+        return Last::WantsRoom;
+    }
+    Last::Wrote(end)
 }

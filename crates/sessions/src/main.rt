@@ -1,16 +1,16 @@
 // Answers each session of standard input: its listing, and after each record's line a line for every vertex's registers. Each session comes
 // after its length in four bytes, the low byte first; a line `=` stands between the answers. So the Rust answers them in oracle/.
-mod records;
+mod answers;
 mod registers;
 mod text;
 
-use crate::records::show_session;
-use crate::text::at_most;
+use crate::answers::show_session;
 use crate::text::flush;
 use crate::text::put_byte;
 use crate::text::ready;
 use batch::Next;
 use batch::next_session;
+use rules::graph::at_most;
 
 // A line `=` stands before each session but the first.
 fn put_between(out: &mut [u8], at: usize, is_first: bool) -> usize {

@@ -1,8 +1,8 @@
 // The registers' lines: `v` index, speed, grown, virtual, defect, node, root.
-use crate::text::at_most;
 use crate::text::put_byte;
 use crate::text::put_number;
 use crate::text::ready;
+use rules::graph::at_most;
 use rules::index::NodeIndex;
 use rules::instruction::CompactGrowState;
 use rules::registers::VertexRegisters;

@@ -1,6 +1,5 @@
 // Text in the output buffer. What a buffer has no room for is left out: `ready` makes room for the longest line.
 use libc::STDOUT_FILENO;
-ghost use Prim.Native.Nat.{_≤_};
 
 pub(crate) fn flush(out: &[u8], at: usize) {
     if at <= out.len() {
@@ -15,12 +14,6 @@ pub(crate) fn ready(out: &[u8], at: usize) -> usize {
     }
     flush(out, at);
     0
-}
-
-pub(crate) fn at_most(n: usize, most: usize) -> usize
-    ensures { λ r. ⌜ r ≤ most ⌝ }
-{
-    if n < most { n } else { most }
 }
 
 pub(crate) fn put_byte(out: &mut [u8], at: usize, byte: u8) -> usize {

@@ -18,8 +18,7 @@ fn put(text: &[u8]) {
 }
 
 fn put_number(n: u32) {
-    put(b" ");
-    io::print_decimal(libc::STDOUT_FILENO, n as u64);
+    batch::put_number(n as u64);
 }
 
 // The two refusals that words meet.

@@ -1,26 +1,24 @@
 -- The repetitions are counted down, on tables that are ready.
-use Rattle.comb_lent.specs.Tables.{tables-ready}
 use borrow.Author.Needs.{needs}
 use Rattle.bench.proofs.run_all.Statement.{statement}
 use Rattle.bench.proofs.run_all.Tie as tie
 
 abbrev Inv-loop : tie.InvT-loop
-Inv-loop records times graph wiring counts registers₀ weights₀ stalled₀ sum₀ left₀ registers weights stalled sum left = Unit
+Inv-loop records times board registers₀ weights₀ stalled₀ sum₀ left₀ registers weights stalled sum left =
+    Unit
 
 abbrev μ-loop : tie.MeasureT-loop
-μ-loop records times graph wiring counts registers₀ weights₀ stalled₀ sum₀ left₀ registers weights stalled sum left = left
+μ-loop records times board registers₀ weights₀ stalled₀ sum₀ left₀ registers weights stalled sum left =
+    left
 
-place-edges-requires : tie.Need-place-edges-requires Inv-loop μ-loop
-place-edges-requires c κs = search needs
-
-counts-of-requires : tie.Need-counts-of-requires Inv-loop μ-loop
-counts-of-requires c κs = search needs
+lay-requires : tie.Need-lay-requires Inv-loop μ-loop
+lay-requires c κs = search needs
 
 loop-holds : tie.Need-loop-holds Inv-loop μ-loop
 loop-holds c = search needs
 
 run-records-requires : tie.Need-run-records-requires Inv-loop μ-loop
-run-records-requires c κs = search (needs, tables-ready)
+run-records-requires c κs = search needs
 
 add-requires : tie.Need-add-requires Inv-loop μ-loop
 add-requires c κs = search needs
@@ -43,8 +41,7 @@ run-all-spec =
     (tie.spec
     Inv-loop
     μ-loop
-    place-edges-requires
-    counts-of-requires
+    lay-requires
     loop-holds
     run-records-requires
     add-requires

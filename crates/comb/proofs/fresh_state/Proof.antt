@@ -4,6 +4,9 @@ use borrow.Author.Needs.{needs}
 use Rattle.comb.proofs.fresh_state.Statement.{statement}
 use Rattle.comb.proofs.fresh_state.Tie as tie
 
+lay-requires : tie.Need-lay-requires
+lay-requires c κs = search (needs, fresh-made)
+
 fresh-registers-requires : tie.Need-fresh-registers-requires
 fresh-registers-requires c κs = search (needs, fresh-made)
 
@@ -14,4 +17,5 @@ returns : tie.Need-returns
 returns c = search (needs, fresh-made)
 
 pub fresh-state-spec : {M : Type 1} → statement M
-fresh-state-spec = tie.close (tie.spec fresh-registers-requires no-flags-requires returns)
+fresh-state-spec =
+    tie.close (tie.spec lay-requires fresh-registers-requires no-flags-requires returns)

@@ -1,6 +1,6 @@
 -- The word at an index is viewed, and a view's grown amount has 26 bits.
 use Rattle.rules.specs.Registers.{at}
-use Rattle.rules.specs.Round.{view-in-range}
+use Rattle.rules.proofs.Round.{view-in-range}
 use borrow.Author.Needs.{needs}
 use Rattle.comb_edge.proofs.at.Statement.{statement}
 use Rattle.comb_edge.proofs.at.Tie as tie

@@ -4,20 +4,17 @@ use borrow.Author.Needs.{needs}
 use Rattle.comb_edge.proofs.fetch_weight.Statement.{statement}
 use Rattle.comb_edge.proofs.fetch_weight.Tie as tie
 
-at-most-requires : tie.Need-at-most-requires
-at-most-requires c κs = search needs
+ne-requires : tie.Need-ne-requires
+ne-requires c κs = search needs
+
+edge-requires : tie.Need-edge-requires
+edge-requires c κs = search needs
 
 mul-post-fetch-weight : tie.Need-mul-post-fetch-weight
 mul-post-fetch-weight c = search needs
 
 element-copy-out-post-fetch-weight : tie.Need-element-copy-out-post-fetch-weight
 element-copy-out-post-fetch-weight c = search needs
-
-mul-post-fetch-weight-2 : tie.Need-mul-post-fetch-weight-2
-mul-post-fetch-weight-2 c = search needs
-
-element-copy-out-post-fetch-weight-2 : tie.Need-element-copy-out-post-fetch-weight-2
-element-copy-out-post-fetch-weight-2 c = search needs
 
 post-fetch-weight-requires : tie.Need-post-fetch-weight-requires
 post-fetch-weight-requires c κs = search needs
@@ -32,11 +29,10 @@ pub fetch-weight-spec : {M : Type 1} → statement M
 fetch-weight-spec =
     tie.close
     (tie.spec
-    at-most-requires
+    ne-requires
+    edge-requires
     mul-post-fetch-weight
     element-copy-out-post-fetch-weight
-    mul-post-fetch-weight-2
-    element-copy-out-post-fetch-weight-2
     post-fetch-weight-requires
     returns
     returns-2)

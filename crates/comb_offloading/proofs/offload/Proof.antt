@@ -1,7 +1,7 @@
 -- The loop holds the flags after the units passed. The measure is what is left of the units.
 use Prim.Native.Nat.{_≤_, _-_}
 use mathlib.Core.Path.{_≡_}
-use Rattle.rules.specs.Fetch.{fetched}
+use Rattle.board.specs.Board.{edgesOn, unitsOn, neOn, fetchedOn}
 use Rattle.rules.specs.Units.{stalls}
 use Rattle.comb_offloading.specs.Unit.{within}
 use Rattle.comb_offloading.specs.Offload.{stallsEdge, byUnits}
@@ -11,24 +11,22 @@ use Rattle.comb_offloading.proofs.offload.Statement.{statement}
 use Rattle.comb_offloading.proofs.offload.Tie as tie
 
 abbrev Inv-loop : tie.InvT-loop
-Inv-loop units nu edges weights registers places degrees ne vertices₀ stalled₀ n k₀ vertices stalled k =
-    (k ≤ n) × (vertices ≡ byUnits edges registers (fetched edges registers weights ne) ne (stalls edges registers (fetched edges registers weights ne) ne) units vertices₀ k)
-    × (stalled ≡ byUnits edges registers (fetched edges registers weights ne) ne stallsEdge units stalled₀ k)
+Inv-loop board weights registers vertices₀ stalled₀ n k₀ vertices stalled k =
+    (k ≤ n) × (vertices ≡ byUnits (edgesOn board) registers (fetchedOn board registers weights) (neOn board) (stalls (edgesOn board) registers (fetchedOn board registers weights) (neOn board)) (unitsOn board) vertices₀ k)
+    × (stalled ≡ byUnits (edgesOn board) registers (fetchedOn board registers weights) (neOn board) stallsEdge (unitsOn board) stalled₀ k)
 
 abbrev μ-loop : tie.MeasureT-loop
-μ-loop units nu edges weights registers places degrees ne vertices₀ stalled₀ n k₀ vertices stalled k = n - k
+μ-loop board weights registers vertices₀ stalled₀ n k₀ vertices stalled k =
+    n - k
 
-at-most-requires : tie.Need-at-most-requires Inv-loop μ-loop
-at-most-requires c κs = search (needs, turns)
+nu-requires : tie.Need-nu-requires Inv-loop μ-loop
+nu-requires c κs = search (needs, turns)
 
 loop-holds : tie.Need-loop-holds Inv-loop μ-loop
 loop-holds c = search (needs, turns)
 
-mul-unit-of : tie.Need-mul-unit-of Inv-loop μ-loop
-mul-unit-of c = search (needs, turns)
-
-element-copy-out-unit-of : tie.Need-element-copy-out-unit-of Inv-loop μ-loop
-element-copy-out-unit-of c = search (needs, turns)
+unit-requires : tie.Need-unit-requires Inv-loop μ-loop
+unit-requires c κs = search (needs, turns)
 
 unit-of-requires : tie.Need-unit-of-requires Inv-loop μ-loop
 unit-of-requires c κs = search (needs, turns)
@@ -54,10 +52,9 @@ offload-spec =
     (tie.spec
     Inv-loop
     μ-loop
-    at-most-requires
+    nu-requires
     loop-holds
-    mul-unit-of
-    element-copy-out-unit-of
+    unit-requires
     unit-of-requires
     offload-unit-requires
     add-k

@@ -7,24 +7,25 @@ use Rattle.rules.specs.Reduce.{vertexFinding}
 use Rattle.rules.specs.declared.finding.Finding.the-variants.{GrowLength}
 use Rattle.comb_settle.proofs.Reporting.{reporting, one-more, one-free, filled, all-told}
 use Rattle.comb_settle.proofs.Settling.{free-word, free-updates, free-shows}
-use Rattle.rules.specs.Fetch.{fetched}
+use Rattle.board.specs.Board.{verticesOn}
 use Rattle.comb_settle.specs.Carried.{lengthIn}
 use Rattle.comb_settle.specs.Unled.{marks-tell}
-use Rattle.comb_settle.specs.Settled.{updatedWord, shadowWord}
+use Rattle.comb_settle.specs.On.{updatedOn, shadowOn}
 use borrow.Author.Needs.{needs}
 use Rattle.comb_settle.proofs.settle.Statement.{statement}
 use Rattle.comb_settle.proofs.settle.Tie as tie
 
 abbrev Inv-loop : tie.InvT-loop
-Inv-loop vertices places degrees edges weights before ne executed stalled nv reach updated₀ shadows₀ n marks length₀ v₀ updated shadows length v =
-    (v ≤ n) × (updated ≡ paint v (updatedWord edges (fetched edges before weights ne) executed places degrees) updated₀) × (shadows ≡ paint v (shadowWord vertices edges (fetched edges before weights ne) executed places degrees stalled) shadows₀)
-    × (GrowLength (lengthIn length) ≡ vertexFinding (paint n (updatedWord edges (fetched edges before weights ne) executed places degrees) updated₀) v)
+Inv-loop board weights before executed stalled updated₀ shadows₀ n marks length₀ v₀ updated shadows length v =
+    (v ≤ n) × (updated ≡ paint v (updatedOn board before weights executed) updated₀) × (shadows ≡ paint v (shadowOn board before weights executed stalled) shadows₀)
+    × (GrowLength (lengthIn length) ≡ vertexFinding (paint n (updatedOn board before weights executed) updated₀) v)
 
 abbrev μ-loop : tie.MeasureT-loop
-μ-loop vertices places degrees edges weights before ne executed stalled nv reach updated₀ shadows₀ n marks length₀ v₀ updated shadows length v = n - v
+μ-loop board weights before executed stalled updated₀ shadows₀ n marks length₀ v₀ updated shadows length v =
+    n - v
 
-at-most-requires : tie.Need-at-most-requires Inv-loop μ-loop
-at-most-requires c κs = search (needs, reporting)
+nv-requires : tie.Need-nv-requires Inv-loop μ-loop
+nv-requires c κs = search (needs, reporting)
 
 mark-led-requires : tie.Need-mark-led-requires Inv-loop μ-loop
 mark-led-requires c κs = search (needs, reporting)
@@ -67,9 +68,9 @@ loop-again c =
     let so-far = c .before .before .before .before .loop .inv in
     let given = c .before .before .before .before .before .before .before .args in
     let wiring = c .before .before .before .before .before .before .before .pre in
-    let tells = marks-tell (wiring .0) (wiring .1) _ _ (c .before .before .before .before .before .mark-led .ensures) in
+    let tells = marks-tell (wiring .wired) (wiring .ends) _ _ (c .before .before .before .before .before .mark-led .ensures) in
     let made = free-updates _ _ _ _ _ _ _ refl _ tells (search needs) _ (c .before .is-free .ensures) (c .if1 .taken) in
-    let shown = free-shows _ _ _ _ _ _ _ refl _ tells (search needs) _ (c .before .is-free .ensures) (c .if1 .taken) (given .vertices .now) (given .stalled .now) in
+    let shown = free-shows _ _ _ _ _ _ _ refl _ tells (search needs) _ (c .before .is-free .ensures) (c .if1 .taken) (verticesOn (given .board .now)) (given .stalled .now) in
     (search needs, search (needs, paint-step, made), search (needs, paint-step, shown), one-free _ _ _ _ _ _ _ (free-word _ _ (c .before .is-free .ensures) (c .if1 .taken)) (so-far .3) (so-far .1) made (search needs))
 
 cast-settle-at : tie.Need-cast-settle-at Inv-loop μ-loop
@@ -123,7 +124,7 @@ settle-spec =
     (tie.spec
     Inv-loop
     μ-loop
-    at-most-requires
+    nv-requires
     mark-led-requires
     loop-holds
     mul-word

@@ -5,8 +5,8 @@ use borrow.Author.Needs.{needs}
 use Rattle.comb_vertex.proofs.degree_of.Statement.{statement}
 use Rattle.comb_vertex.proofs.degree_of.Tie as tie
 
-element-copy-out-degree : tie.Need-element-copy-out-degree
-element-copy-out-degree c = search needs
+degree-requires : tie.Need-degree-requires
+degree-requires c κs = search needs
 
 cast-result : tie.Need-cast-result
 cast-result c = search needs
@@ -20,4 +20,4 @@ unfolding degreeOf
 returns-2 c = omega arith
 
 pub degree-of-spec : {M : Type 1} → statement M
-degree-of-spec = tie.close (tie.spec element-copy-out-degree cast-result returns returns-2)
+degree-of-spec = tie.close (tie.spec degree-requires cast-result returns returns-2)

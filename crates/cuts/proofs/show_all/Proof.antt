@@ -1,5 +1,4 @@
 -- The buffers keep their lengths; the turns are counted down.
-use Prim.Native.Nat.{_≤_}
 use mathlib.Core.Path.{_≡_}
 use lib.ListN.{length}
 use borrow.Author.Needs.{needs}
@@ -7,10 +6,12 @@ use Rattle.cuts.proofs.show_all.Statement.{statement}
 use Rattle.cuts.proofs.show_all.Tie as tie
 
 abbrev Inv-loop : tie.InvT-loop
-Inv-loop session₀ out₀ turns₀ t6 session out turns = (length session ≡ length session₀) × (length out ≡ length out₀)
+Inv-loop session₀ out₀ turns₀ t6 session out turns =
+    (length session ≡ length session₀) × (length out ≡ length out₀)
 
 abbrev μ-loop : tie.MeasureT-loop
-μ-loop session₀ out₀ turns₀ t6 session out turns = turns
+μ-loop session₀ out₀ turns₀ t6 session out turns =
+    turns
 
 loop-holds : tie.Need-loop-holds Inv-loop μ-loop
 loop-holds c = search needs

@@ -7,10 +7,12 @@ use Rattle.cuts.proofs.show_records.Statement.{statement}
 use Rattle.cuts.proofs.show_records.Tie as tie
 
 abbrev Inv-loop : tie.InvT-loop
-Inv-loop graph session start out₀ state₀ from₀ piece₀ turns₀ out state from piece turns = (from ≤ length session) × (1 ≤ piece) × (piece ≤ 17) × (length out ≡ length out₀)
+Inv-loop graph session start out₀ state₀ from₀ piece₀ turns₀ out state from piece turns =
+    (from ≤ length session) × (1 ≤ piece) × (piece ≤ 17) × (length out ≡ length out₀)
 
 abbrev μ-loop : tie.MeasureT-loop
-μ-loop graph session start out₀ state₀ from₀ piece₀ turns₀ out state from piece turns = turns
+μ-loop graph session start out₀ state₀ from₀ piece₀ turns₀ out state from piece turns =
+    turns
 
 at-most-requires : tie.Need-at-most-requires Inv-loop μ-loop
 at-most-requires c κs = search needs
@@ -47,6 +49,9 @@ add-from c = search needs
 
 put-requires : tie.Need-put-requires Inv-loop μ-loop
 put-requires c κs = search needs
+
+gets-on-requires : tie.Need-gets-on-requires Inv-loop μ-loop
+gets-on-requires c κs = search needs
 
 same-length : tie.Need-same-length Inv-loop μ-loop
 same-length c = search needs
@@ -99,6 +104,7 @@ show-records-spec =
     run-chunk-requires
     add-from
     put-requires
+    gets-on-requires
     same-length
     returns
     sub-show-end

@@ -1,42 +1,38 @@
--- Each image is taken whole from what is left of the slice.
-use Prim.Native.Nat.{_≤_, _-_}
+-- The turns are counted down, and the buffer keeps its length.
 use lib.ListN.{length}
+use mathlib.Core.Path.{_≡_}
 use borrow.Author.Needs.{needs}
 use Rattle.images.proofs.show_all.Statement.{statement}
 use Rattle.images.proofs.show_all.Tie as tie
 
 abbrev Inv-loop : tie.InvT-loop
-Inv-loop s at₀ at = at ≤ length s
+Inv-loop buffer₀ turns₀ buffer turns =
+    length buffer ≡ length buffer₀
 
 abbrev μ-loop : tie.MeasureT-loop
-μ-loop s at₀ at = length s - at
+μ-loop buffer₀ turns₀ buffer turns =
+    turns
 
 loop-holds : tie.Need-loop-holds Inv-loop μ-loop
 loop-holds c = search needs
 
-sub-length-of : tie.Need-sub-length-of Inv-loop μ-loop
-sub-length-of c = search needs
+next-session-requires : tie.Need-next-session-requires Inv-loop μ-loop
+next-session-requires c κs = search needs
 
-part-length-of-start : tie.Need-part-length-of-start Inv-loop μ-loop
-part-length-of-start c = search needs
+enum-known-n : tie.Need-enum-known-n Inv-loop μ-loop
+enum-known-n c = search needs
 
-part-length-of-end : tie.Need-part-length-of-end Inv-loop μ-loop
-part-length-of-end c = search needs
+enum-told : tie.Need-enum-told Inv-loop μ-loop
+enum-told c = search needs
 
-length-of-requires : tie.Need-length-of-requires Inv-loop μ-loop
-length-of-requires c κs = search needs
+same-length : tie.Need-same-length Inv-loop μ-loop
+same-length c = search needs
 
-sub-if1 : tie.Need-sub-if1 Inv-loop μ-loop
-sub-if1 c = search needs
+returns : tie.Need-returns Inv-loop μ-loop
+returns c = search needs
 
-add-from : tie.Need-add-from Inv-loop μ-loop
-add-from c = search needs
-
-sub-if2 : tie.Need-sub-if2 Inv-loop μ-loop
-sub-if2 c = search needs
-
-add-to : tie.Need-add-to Inv-loop μ-loop
-add-to c = search needs
+at-most-requires : tie.Need-at-most-requires Inv-loop μ-loop
+at-most-requires c κs = search needs
 
 sub-open : tie.Need-sub-open Inv-loop μ-loop
 sub-open c = search needs
@@ -53,20 +49,20 @@ open-requires c κs = search needs
 show-requires : tie.Need-show-requires Inv-loop μ-loop
 show-requires c κs = search needs
 
+sub-turns : tie.Need-sub-turns Inv-loop μ-loop
+sub-turns c = search needs
+
 loop-less : tie.Need-loop-less Inv-loop μ-loop
 loop-less c = search needs
 
 loop-again : tie.Need-loop-again Inv-loop μ-loop
 loop-again c = search needs
 
-returns : tie.Need-returns Inv-loop μ-loop
-returns c = search needs
+same-length-2 : tie.Need-same-length-2 Inv-loop μ-loop
+same-length-2 c = search needs
 
 returns-2 : tie.Need-returns-2 Inv-loop μ-loop
 returns-2 c = search needs
-
-returns-3 : tie.Need-returns-3 Inv-loop μ-loop
-returns-3 c = search needs
 
 pub show-all-spec : {M : Type 1} → statement M
 show-all-spec =
@@ -75,21 +71,19 @@ show-all-spec =
     Inv-loop
     μ-loop
     loop-holds
-    sub-length-of
-    part-length-of-start
-    part-length-of-end
-    length-of-requires
-    sub-if1
-    add-from
-    sub-if2
-    add-to
+    next-session-requires
+    enum-known-n
+    enum-told
+    same-length
+    returns
+    at-most-requires
     sub-open
     part-open-start
     part-open-end
     open-requires
     show-requires
+    sub-turns
     loop-less
     loop-again
-    returns
-    returns-2
-    returns-3)
+    same-length-2
+    returns-2)

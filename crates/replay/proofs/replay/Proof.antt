@@ -7,10 +7,12 @@ use Rattle.replay.proofs.replay.Statement.{statement}
 use Rattle.replay.proofs.replay.Tie as tie
 
 abbrev Inv-loop : tie.InvT-loop
-Inv-loop graph input₀ start read out₀ state₀ from₀ to₀ turns₀ input out state from to turns = (from ≤ to) × (to ≤ length input) × (length input ≡ length input₀) × (length out ≡ length out₀)
+Inv-loop graph input₀ start read out₀ state₀ from₀ to₀ turns₀ input out state from to turns =
+    (from ≤ to) × (to ≤ length input) × (length input ≡ length input₀) × (length out ≡ length out₀)
 
 abbrev μ-loop : tie.MeasureT-loop
-μ-loop graph input₀ start read out₀ state₀ from₀ to₀ turns₀ input out state from to turns = turns
+μ-loop graph input₀ start read out₀ state₀ from₀ to₀ turns₀ input out state from to turns =
+    turns
 
 loop-holds : tie.Need-loop-holds Inv-loop μ-loop
 loop-holds c = search needs
@@ -45,6 +47,9 @@ same-length-2 c = search needs
 returns : tie.Need-returns Inv-loop μ-loop
 returns c = search needs
 
+gets-on-requires : tie.Need-gets-on-requires Inv-loop μ-loop
+gets-on-requires c κs = search needs
+
 same-length-3 : tie.Need-same-length-3 Inv-loop μ-loop
 same-length-3 c = search needs
 
@@ -53,6 +58,9 @@ same-length-4 c = search needs
 
 returns-2 : tie.Need-returns-2 Inv-loop μ-loop
 returns-2 c = search needs
+
+wants-bytes-requires : tie.Need-wants-bytes-requires Inv-loop μ-loop
+wants-bytes-requires c κs = search needs
 
 sub-left : tie.Need-sub-left Inv-loop μ-loop
 sub-left c = search needs
@@ -110,9 +118,11 @@ replay-spec =
     same-length
     same-length-2
     returns
+    gets-on-requires
     same-length-3
     same-length-4
     returns-2
+    wants-bytes-requires
     sub-left
     refill-requires
     show-end-requires

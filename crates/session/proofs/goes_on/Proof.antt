@@ -1,6 +1,6 @@
 -- The tests are the definition's, in its order.
 use Rattle.laws.specs.Connectives.{and-is}
-use Rattle.session.specs.Ran.{goesOn}
+use Rattle.session.specs.Chunk.{goesOn}
 use Rattle.session.proofs.goes_on.Statement.{statement}
 use Rattle.session.proofs.goes_on.Tie as tie
 

@@ -4,16 +4,18 @@ use native.Mathlib.Omega.{arith}
 use borrow.Author.Needs.{needs}
 use lib.ListN.{length}
 use Rattle.comb_cycle.specs.Cycled.{stateOf}
-use Rattle.comb_lent.specs.Whole.{graphIn}
-use Rattle.session.proofs.Turns.{Under, five-left, told, filled, turns}
+use Rattle.board.specs.Board.{graphOn}
+use Rattle.session.proofs.Turns.{Under, five-left, filled, turns}
 use Rattle.session.proofs.run_records.Statement.{statement}
 use Rattle.session.proofs.run_records.Tie as tie
 
 abbrev Inv-loop : tie.InvT-loop
-Inv-loop counts vertices edges units degrees places defaults bytes out₀ registers₀ weights₀ stalled₀ maximum₀ used₀ written₀ ended₀ out registers weights stalled maximum used written ended = Under (graphIn counts vertices edges units defaults) (stateOf registers₀ weights₀ stalled₀ maximum₀) bytes out₀ (stateOf registers weights stalled maximum) ended used written out
+Inv-loop board bytes out₀ registers₀ weights₀ stalled₀ maximum₀ used₀ written₀ ended₀ out registers weights stalled maximum used written ended =
+    Under (graphOn board) (stateOf registers₀ weights₀ stalled₀ maximum₀) bytes out₀ (stateOf registers weights stalled maximum) ended used written out
 
 abbrev μ-loop : tie.MeasureT-loop
-μ-loop counts vertices edges units degrees places defaults bytes out₀ registers₀ weights₀ stalled₀ maximum₀ used₀ written₀ ended₀ out registers weights stalled maximum used written ended = length bytes - used
+μ-loop board bytes out₀ registers₀ weights₀ stalled₀ maximum₀ used₀ written₀ ended₀ out registers weights stalled maximum used written ended =
+    length bytes - used
 
 loop-holds : tie.Need-loop-holds Inv-loop μ-loop
 loop-holds c = search (needs, turns)
@@ -39,8 +41,17 @@ value-at-requires c κs = search (needs, turns)
 add-used : tie.Need-add-used Inv-loop μ-loop
 add-used c = omega (arith, five-left (c .before .before .before .before .loop .inv) (c .before .before .before .goes-on .ensures) (c .before .before .if1 .taken))
 
-run-record-requires : tie.Need-run-record-requires Inv-loop μ-loop
-run-record-requires c κs = (search needs, (search needs, search (needs, turns)))
+answer-record-requires : tie.Need-answer-record-requires Inv-loop μ-loop
+answer-record-requires c κs = search needs
+
+maximum-left-requires : tie.Need-maximum-left-requires Inv-loop μ-loop
+maximum-left-requires c κs = search needs
+
+answer-line-requires : tie.Need-answer-line-requires Inv-loop μ-loop
+answer-line-requires c κs = search needs
+
+is-unknown-requires : tie.Need-is-unknown-requires Inv-loop μ-loop
+is-unknown-requires c κs = search needs
 
 loop-less : tie.Need-loop-less Inv-loop μ-loop
 loop-less c = search (needs, turns)
@@ -48,14 +59,20 @@ loop-less c = search (needs, turns)
 loop-again : tie.Need-loop-again Inv-loop μ-loop
 loop-again c = search (needs, turns)
 
+sub-stop-of : tie.Need-sub-stop-of Inv-loop μ-loop
+sub-stop-of c = search (needs, turns)
+
+stop-of-requires : tie.Need-stop-of-requires Inv-loop μ-loop
+stop-of-requires c κs = search needs
+
 same-length : tie.Need-same-length Inv-loop μ-loop
-same-length c = search (needs, turns)
+same-length c = search needs
 
 returns : tie.Need-returns Inv-loop μ-loop
 returns c =
-    let u = c .before .before .loop .inv in
-    let test = c .before .goes-on .ensures in
-    (told u test (c .if1 .left), (filled u test (c .if1 .left), (u .within, omega arith)))
+    let u = c .before .before .before .loop .inv in
+    let test = c .before .before .goes-on .ensures in
+    (search (needs, turns), (filled u test (c .before .if1 .left), (u .within, search (needs, turns))))
 
 pub run-records-spec : {M : Type 1} → statement M
 run-records-spec =
@@ -71,8 +88,13 @@ run-records-spec =
     add-value-at
     value-at-requires
     add-used
-    run-record-requires
+    answer-record-requires
+    maximum-left-requires
+    answer-line-requires
+    is-unknown-requires
     loop-less
     loop-again
+    sub-stop-of
+    stop-of-requires
     same-length
     returns)

@@ -7,10 +7,12 @@ use Rattle.bench.proofs.call.run_records.Statement.{statement}
 use Rattle.bench.proofs.call.run_records.Tie as tie
 
 abbrev Inv-loop : tie.InvT-loop
-Inv-loop counts vertices edges units degrees places defaults weights₀ registers₀ stalled₀ records maximum₀ sum₀ at₀ weights registers stalled maximum sum at = at ≤ length records
+Inv-loop board weights₀ registers₀ stalled₀ records maximum₀ sum₀ at₀ weights registers stalled maximum sum at =
+    at ≤ length records
 
 abbrev μ-loop : tie.MeasureT-loop
-μ-loop counts vertices edges units degrees places defaults weights₀ registers₀ stalled₀ records maximum₀ sum₀ at₀ weights registers stalled maximum sum at = length records - at
+μ-loop board weights₀ registers₀ stalled₀ records maximum₀ sum₀ at₀ weights registers stalled maximum sum at =
+    length records - at
 
 loop-holds : tie.Need-loop-holds Inv-loop μ-loop
 loop-holds c = search (needs, arith)
@@ -18,8 +20,8 @@ loop-holds c = search (needs, arith)
 sub-loop : tie.Need-sub-loop Inv-loop μ-loop
 sub-loop c = search (needs, arith)
 
-shared-slice-read-run-record : tie.Need-shared-slice-read-run-record Inv-loop μ-loop
-shared-slice-read-run-record c = search (needs, arith)
+shared-slice-read-answer-record : tie.Need-shared-slice-read-answer-record Inv-loop μ-loop
+shared-slice-read-answer-record c = search (needs, arith)
 
 add-value-at : tie.Need-add-value-at Inv-loop μ-loop
 add-value-at c = search (needs, arith)
@@ -27,8 +29,14 @@ add-value-at c = search (needs, arith)
 value-at-requires : tie.Need-value-at-requires Inv-loop μ-loop
 value-at-requires c κs = search (needs, arith)
 
-run-record-requires : tie.Need-run-record-requires Inv-loop μ-loop
-run-record-requires c κs = search (needs, arith)
+answer-record-requires : tie.Need-answer-record-requires Inv-loop μ-loop
+answer-record-requires c κs = search (needs, arith)
+
+maximum-left-requires : tie.Need-maximum-left-requires Inv-loop μ-loop
+maximum-left-requires c κs = search (needs, arith)
+
+count-of-requires : tie.Need-count-of-requires Inv-loop μ-loop
+count-of-requires c κs = search (needs, arith)
 
 add-requires : tie.Need-add-requires Inv-loop μ-loop
 add-requires c κs = search (needs, arith)
@@ -53,10 +61,12 @@ run-records-spec =
     μ-loop
     loop-holds
     sub-loop
-    shared-slice-read-run-record
+    shared-slice-read-answer-record
     add-value-at
     value-at-requires
-    run-record-requires
+    answer-record-requires
+    maximum-left-requires
+    count-of-requires
     add-requires
     add-at
     loop-less

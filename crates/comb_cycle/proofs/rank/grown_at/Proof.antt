@@ -1,7 +1,7 @@
 -- The word at an index is viewed, and a view's grown amount has 26 bits.
 use mathlib.Core.Path.{ap}
 use Rattle.rules.specs.Registers.{at}
-use Rattle.rules.specs.Round.{view-in-range}
+use Rattle.rules.proofs.Round.{view-in-range}
 use Rattle.rules.specs.declared.registers.VertexRegisters.{VertexRegisters}
 use borrow.Author.Needs.{needs}
 use Rattle.comb_cycle.proofs.rank.grown_at.Statement.{statement}

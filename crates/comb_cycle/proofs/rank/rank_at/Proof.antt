@@ -60,8 +60,8 @@ add-less c = search needs
 less-requires : tie.Need-less-requires
 less-requires c κs = search needs
 
-cast-t30 : tie.Need-cast-t30
-cast-t30 c = search needs
+cast-t29 : tie.Need-cast-t29
+cast-t29 c = search needs
 
 meeting-requires : tie.Need-meeting-requires
 meeting-requires c κs = search needs
@@ -95,7 +95,7 @@ rank-at-spec =
     grown-at-requires-2
     add-less
     less-requires
-    cast-t30
+    cast-t29
     meeting-requires
     rank-of-requires
     returns-2)

@@ -1,4 +1,5 @@
 -- Each kind of report has its answer; the strongest is of an edge in use.
+use Rattle.comb_cycle.proofs.Staging.{edges-fit}
 use Rattle.comb_cycle.proofs.Responds.{conflict-inside, says-odd}
 use borrow.Author.Needs.{needs}
 use Rattle.comb_cycle.proofs.respond.answer.Statement.{statement}
@@ -14,7 +15,7 @@ cast-response : tie.Need-cast-response
 cast-response c = search needs
 
 response-requires : tie.Need-response-requires
-response-requires c κs = search (needs, conflict-inside)
+response-requires c κs = search (needs, conflict-inside, edges-fit)
 
 enum-known-strongest-2 : tie.Need-enum-known-strongest-2
 enum-known-strongest-2 c = search needs

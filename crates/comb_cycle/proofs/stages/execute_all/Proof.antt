@@ -14,7 +14,7 @@ returns : tie.Need-returns
 returns c = search (needs, finds)
 
 returns-2 : tie.Need-returns-2
-returns-2 c = ran _ _ _ _ _ _ _ _ (c .execute .ensures .0) (c .execute .ensures .1) (c .before .before .before .pre .1) (c .before .before .before .pre .0)
+returns-2 c = ran _ _ _ _ _ _ _ _ (c .execute .ensures .0) (c .execute .ensures .1) (c .before .before .before .pre .1)
 
 pub execute-all-spec : {M : Type 1} → statement M
 execute-all-spec = tie.close (tie.spec enum-told execute-requires returns returns-2)

@@ -2,7 +2,7 @@
 -- The measure is what is left of the list.
 use Prim.Native.Nat.{_≤_, _-_}
 use mathlib.Core.Path.{_≡_}
-use Rattle.rules.specs.Fetch.{fetched}
+use Rattle.board.specs.Board.{edgesOn, neOn, fetchedOn}
 use Rattle.comb_cycle.specs.Rank.{reportIn}
 use Rattle.comb_cycle.specs.Strongest.{strongestOf}
 use Rattle.comb_cycle.proofs.Listing.{heardFrom}
@@ -12,10 +12,15 @@ use Rattle.comb_cycle.proofs.strongest.strongest.Statement.{statement}
 use Rattle.comb_cycle.proofs.strongest.strongest.Tie as tie
 
 abbrev Inv-loop : tie.InvT-loop
-Inv-loop edges weights before ne registers shadows places degrees reach vertices n strongest₀ i₀ strongest i = (i ≤ n) × (reportIn strongest ≡ strongestOf (heardFrom edges (fetched edges before weights ne) registers shadows ne vertices) i)
+Inv-loop board weights before registers shadows vertices n strongest₀ i₀ strongest i =
+    (i ≤ n) × (reportIn strongest ≡ strongestOf (heardFrom (edgesOn board) (fetchedOn board before weights) registers shadows (neOn board) vertices) i)
 
 abbrev μ-loop : tie.MeasureT-loop
-μ-loop edges weights before ne registers shadows places degrees reach vertices n strongest₀ i₀ strongest i = n - i
+μ-loop board weights before registers shadows vertices n strongest₀ i₀ strongest i =
+    n - i
+
+reach-requires : tie.Need-reach-requires Inv-loop μ-loop
+reach-requires c κs = search (needs, responds)
 
 list-growing-requires : tie.Need-list-growing-requires Inv-loop μ-loop
 list-growing-requires c κs = search (needs, responds)
@@ -42,7 +47,7 @@ returns : tie.Need-returns Inv-loop μ-loop
 returns c =
     let inv = c .before .loop .inv in
     let listed = c .before .before .list-growing in
-    vertices-end _ _ _ _ _ _ _ _ _ (c .before .before .before .before .args .reach) (inv .1) (inv .0) (search needs) (listed .ensures .0 .0) (listed .ensures .1) (search needs) (c .before .before .before .before .pre .1)
+    vertices-end _ _ _ _ _ _ _ _ _ (c .before .before .before .before .reach .result) (inv .1) (inv .0) (search needs) (listed .ensures .0 .0) (listed .ensures .1) (search needs) (c .before .before .before .before .reach .ensures) (c .before .before .before .before .before .pre .ends)
 
 pub strongest-spec : {M : Type 1} → statement M
 strongest-spec =
@@ -50,6 +55,7 @@ strongest-spec =
     (tie.spec
     Inv-loop
     μ-loop
+    reach-requires
     list-growing-requires
     loop-holds
     array-read-strongest-at

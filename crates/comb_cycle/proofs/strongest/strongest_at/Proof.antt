@@ -2,8 +2,7 @@
 -- The measure is what is left of the places.
 use Prim.Native.Nat.{_≤_, _-_}
 use mathlib.Core.Path.{_≡_}
-use Rattle.places.specs.Wired.{degree-wired}
-use Rattle.rules.specs.Fetch.{fetched}
+use Rattle.board.specs.Board.{edgesOn, placesOn, fetchedOn, few}
 use Rattle.comb_cycle.specs.Rank.{reportIn}
 use Rattle.comb_cycle.specs.Strongest.{stronger, strongestOf}
 use Rattle.comb_cycle.proofs.Covered.{placeReport}
@@ -13,31 +12,21 @@ use Rattle.comb_cycle.proofs.strongest.strongest_at.Statement.{statemen
 use Rattle.comb_cycle.proofs.strongest.strongest_at.Tie as tie
 
 abbrev Inv-loop : tie.InvT-loop
-Inv-loop edges weights before ne registers shadows places degrees v start n strongest₀ k₀ strongest k = (n ≤ 16) × (k ≤ n) × (reportIn strongest ≡ stronger (reportIn start) (strongestOf (placeReport edges (fetched edges before weights ne) registers shadows places v) k))
+Inv-loop board weights before registers shadows v start n strongest₀ k₀ strongest k =
+    (n ≤ 16) × (k ≤ n) × (reportIn strongest ≡ stronger (reportIn start) (strongestOf (placeReport (edgesOn board) (fetchedOn board before weights) registers shadows (placesOn board) v) k))
 
 abbrev μ-loop : tie.MeasureT-loop
-μ-loop edges weights before ne registers shadows places degrees v start n strongest₀ k₀ strongest k = n - k
+μ-loop board weights before registers shadows v start n strongest₀ k₀ strongest k =
+    n - k
 
-element-copy-out-n : tie.Need-element-copy-out-n Inv-loop μ-loop
-element-copy-out-n c = search (needs, responds)
+degree-requires : tie.Need-degree-requires Inv-loop μ-loop
+degree-requires c κs = search (needs, responds)
 
 loop-holds : tie.Need-loop-holds Inv-loop μ-loop
-loop-holds c = search (needs, responds, degree-wired)
+loop-holds c = search (needs, responds, few)
 
-mul-rank-at : tie.Need-mul-rank-at Inv-loop μ-loop
-mul-rank-at c = search (needs, responds)
-
-cast-rank-at : tie.Need-cast-rank-at Inv-loop μ-loop
-cast-rank-at c = search (needs, responds)
-
-add-rank-at : tie.Need-add-rank-at Inv-loop μ-loop
-add-rank-at c = search (needs, responds)
-
-mul-rank-at-2 : tie.Need-mul-rank-at-2 Inv-loop μ-loop
-mul-rank-at-2 c = search (needs, responds)
-
-element-copy-out-rank-at : tie.Need-element-copy-out-rank-at Inv-loop μ-loop
-element-copy-out-rank-at c = search (needs, responds)
+place-requires : tie.Need-place-requires Inv-loop μ-loop
+place-requires c κs = search (needs, responds)
 
 rank-at-requires : tie.Need-rank-at-requires Inv-loop μ-loop
 rank-at-requires c κs = search (needs, responds)
@@ -63,13 +52,9 @@ strongest-at-spec =
     (tie.spec
     Inv-loop
     μ-loop
-    element-copy-out-n
+    degree-requires
     loop-holds
-    mul-rank-at
-    cast-rank-at
-    add-rank-at
-    mul-rank-at-2
-    element-copy-out-rank-at
+    place-requires
     rank-at-requires
     lesser-requires
     add-k

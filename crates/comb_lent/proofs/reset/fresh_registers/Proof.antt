@@ -1,6 +1,7 @@
 -- The table is painted vertex by vertex.
 use Rattle.comb_lent.proofs.Blank.{fresh-all}
 use Rattle.laws.specs.Table.{paint, fills}
+use Rattle.board.specs.Board.{verticesOn}
 use Rattle.comb_lent.specs.Fresh.{freshWord}
 use Prim.Native.Nat.{_≤_, _-_}
 use mathlib.Core.Path.{_≡_}
@@ -9,13 +10,15 @@ use Rattle.comb_lent.proofs.reset.fresh_registers.Statement.{statement}
 use Rattle.comb_lent.proofs.reset.fresh_registers.Tie as tie
 
 abbrev Inv-loop : tie.InvT-loop
-Inv-loop vertices nv n out₀ v₀ out v = (v ≤ n) × (out ≡ paint v (freshWord vertices) out₀)
+Inv-loop board n out₀ v₀ out v =
+    (v ≤ n) × (out ≡ paint v (freshWord (verticesOn board)) out₀)
 
 abbrev μ-loop : tie.MeasureT-loop
-μ-loop vertices nv n out₀ v₀ out v = n - v
+μ-loop board n out₀ v₀ out v =
+    n - v
 
-at-most-requires : tie.Need-at-most-requires Inv-loop μ-loop
-at-most-requires c κs = search (needs, fills)
+nv-requires : tie.Need-nv-requires Inv-loop μ-loop
+nv-requires c κs = search (needs, fills)
 
 no-registers-requires : tie.Need-no-registers-requires Inv-loop μ-loop
 no-registers-requires c κs = search (needs, fills)
@@ -53,7 +56,7 @@ fresh-registers-spec =
     (tie.spec
     Inv-loop
     μ-loop
-    at-most-requires
+    nv-requires
     no-registers-requires
     loop-holds
     cast-fresh-word

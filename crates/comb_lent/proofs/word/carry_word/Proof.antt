@@ -13,6 +13,9 @@ enum-known-refusal c = search (needs, ends-refused, ends-reset, ends-says)
 enum-told : tie.Need-enum-told
 enum-told c = search (needs, ends-refused, ends-reset, ends-says)
 
+defaults-requires : tie.Need-defaults-requires
+defaults-requires c κs = search (needs, ends-refused, ends-reset, ends-says)
+
 fresh-registers-requires : tie.Need-fresh-registers-requires
 fresh-registers-requires c κs = search (needs, ends-refused, ends-reset, ends-says)
 
@@ -44,6 +47,7 @@ carry-word-spec =
     unpack-requires
     enum-known-refusal
     enum-told
+    defaults-requires
     fresh-registers-requires
     no-flags-requires
     enum-known-instruction

@@ -1,4 +1,5 @@
 -- The flags of both ends, one after the other.
+use Rattle.comb_offloading.proofs.Raised.{raised-both}
 use borrow.Author.Needs.{needs}
 use Rattle.comb_offloading.proofs.defect_match.stall_ends.Statement.{statement}
 use Rattle.comb_offloading.proofs.defect_match.stall_ends.Tie as tie
@@ -16,7 +17,7 @@ raise-requires-2 : tie.Need-raise-requires-2
 raise-requires-2 c κs = search needs
 
 returns : tie.Need-returns
-returns c = cc
+returns c = search (needs, raised-both)
 
 pub stall-ends-spec : {M : Type 1} → statement M
 stall-ends-spec =

@@ -5,21 +5,18 @@ use borrow.Author.Needs.{needs}
 use Rattle.comb_offloading.proofs.edge.left_of.Statement.{statement}
 use Rattle.comb_offloading.proofs.edge.left_of.Tie as tie
 
-cast-left : tie.Need-cast-left
-cast-left c = search needs
+cast-edge : tie.Need-cast-edge
+cast-edge c = search needs
 
-mul-left : tie.Need-mul-left
-mul-left c = search needs
-
-element-copy-out-left : tie.Need-element-copy-out-left
-element-copy-out-left c = search needs
+edge-requires : tie.Need-edge-requires
+edge-requires c κs = search needs
 
 left-requires : tie.Need-left-requires
 left-requires c κs = search needs
 
 returns : tie.Need-returns
 unfolding leftOf
-returns c = (c .left .ensures, omega arith)
+returns c = (rw (← c .before .edge .ensures) (c .left .ensures), omega arith)
 
 pub left-of-spec : {M : Type 1} → statement M
-left-of-spec = tie.close (tie.spec cast-left mul-left element-copy-out-left left-requires returns)
+left-of-spec = tie.close (tie.spec cast-edge edge-requires left-requires returns)

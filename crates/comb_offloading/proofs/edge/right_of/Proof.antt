@@ -5,22 +5,18 @@ use borrow.Author.Needs.{needs}
 use Rattle.comb_offloading.proofs.edge.right_of.Statement.{statement}
 use Rattle.comb_offloading.proofs.edge.right_of.Tie as tie
 
-cast-right : tie.Need-cast-right
-cast-right c = search needs
+cast-edge : tie.Need-cast-edge
+cast-edge c = search needs
 
-mul-right : tie.Need-mul-right
-mul-right c = search needs
-
-element-copy-out-right : tie.Need-element-copy-out-right
-element-copy-out-right c = search needs
+edge-requires : tie.Need-edge-requires
+edge-requires c κs = search needs
 
 right-requires : tie.Need-right-requires
 right-requires c κs = search needs
 
 returns : tie.Need-returns
 unfolding rightOf
-returns c = (c .right .ensures, omega arith)
+returns c = (rw (← c .before .edge .ensures) (c .right .ensures), omega arith)
 
 pub right-of-spec : {M : Type 1} → statement M
-right-of-spec =
-    tie.close (tie.spec cast-right mul-right element-copy-out-right right-requires returns)
+right-of-spec = tie.close (tie.spec cast-edge edge-requires right-requires returns)

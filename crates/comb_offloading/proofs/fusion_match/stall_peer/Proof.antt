@@ -1,4 +1,5 @@
 -- The flag of the edge's other end.
+use Rattle.comb_offloading.proofs.Raised.{raised-one}
 use borrow.Author.Needs.{needs}
 use Rattle.comb_offloading.proofs.fusion_match.stall_peer.Statement.{statement}
 use Rattle.comb_offloading.proofs.fusion_match.stall_peer.Tie as tie
@@ -10,7 +11,7 @@ raise-requires : tie.Need-raise-requires
 raise-requires c κs = search needs
 
 returns : tie.Need-returns
-returns c = cc
+returns c = search (needs, raised-one)
 
 pub stall-peer-spec : {M : Type 1} → statement M
 stall-peer-spec = tie.close (tie.spec peer-of-requires raise-requires returns)

@@ -2,8 +2,7 @@
 -- The measure is what is left of the places.
 use Prim.Native.Nat.{_≤_, _-_}
 use mathlib.Core.Path.{_≡_}
-use Rattle.rules.specs.Fetch.{fetched}
-use Rattle.places.specs.Wired.{degree-wired}
+use Rattle.board.specs.Board.{edgesOn, placesOn, neOn, fetchedOn, few}
 use Rattle.comb_offloading.specs.Around.{stallsAlong}
 use Rattle.comb_offloading.proofs.Walk.{stalling}
 use borrow.Author.Needs.{needs}
@@ -11,11 +10,12 @@ use Rattle.comb_offloading.proofs.stall_around.stall_around.Statement.{
 use Rattle.comb_offloading.proofs.stall_around.stall_around.Tie as tie
 
 abbrev Inv-loop : tie.InvT-loop
-Inv-loop edge edges weights registers places degrees ne vertices₀ v n k₀ vertices k =
-    (n ≤ 16) × (k ≤ n) × (vertices ≡ stallsAlong edges registers (fetched edges registers weights ne) (edge .0) places v vertices₀ k)
+Inv-loop edge board weights registers vertices₀ v n k₀ vertices k =
+    (n ≤ 16) × (k ≤ n) × (vertices ≡ stallsAlong (edgesOn board) registers (fetchedOn board registers weights) (edge .0) (placesOn board) v vertices₀ k)
 
 abbrev μ-loop : tie.MeasureT-loop
-μ-loop edge edges weights registers places degrees ne vertices₀ v n k₀ vertices k = n - k
+μ-loop edge board weights registers vertices₀ v n k₀ vertices k =
+    n - k
 
 raise-requires : tie.Need-raise-requires Inv-loop μ-loop
 raise-requires c κs = search (needs, stalling)
@@ -23,26 +23,14 @@ raise-requires c κs = search (needs, stalling)
 cast-v : tie.Need-cast-v Inv-loop μ-loop
 cast-v c = search (needs, stalling)
 
-element-copy-out-n : tie.Need-element-copy-out-n Inv-loop μ-loop
-element-copy-out-n c = search (needs, stalling)
+degree-requires : tie.Need-degree-requires Inv-loop μ-loop
+degree-requires c κs = search (needs, stalling)
 
 loop-holds : tie.Need-loop-holds Inv-loop μ-loop
-loop-holds c = search (needs, stalling, degree-wired)
+loop-holds c = search (needs, stalling, few)
 
-mul-stall-far : tie.Need-mul-stall-far Inv-loop μ-loop
-mul-stall-far c = search (needs, stalling)
-
-cast-stall-far : tie.Need-cast-stall-far Inv-loop μ-loop
-cast-stall-far c = search (needs, stalling)
-
-add-stall-far : tie.Need-add-stall-far Inv-loop μ-loop
-add-stall-far c = search (needs, stalling)
-
-mul-stall-far-2 : tie.Need-mul-stall-far-2 Inv-loop μ-loop
-mul-stall-far-2 c = search (needs, stalling)
-
-element-copy-out-stall-far : tie.Need-element-copy-out-stall-far Inv-loop μ-loop
-element-copy-out-stall-far c = search (needs, stalling)
+place-requires : tie.Need-place-requires Inv-loop μ-loop
+place-requires c κs = search (needs, stalling)
 
 stall-far-requires : tie.Need-stall-far-requires Inv-loop μ-loop
 stall-far-requires c κs = search (needs, stalling)
@@ -67,13 +55,9 @@ stall-around-spec =
     μ-loop
     raise-requires
     cast-v
-    element-copy-out-n
+    degree-requires
     loop-holds
-    mul-stall-far
-    cast-stall-far
-    add-stall-far
-    mul-stall-far-2
-    element-copy-out-stall-far
+    place-requires
     stall-far-requires
     add-k
     loop-less

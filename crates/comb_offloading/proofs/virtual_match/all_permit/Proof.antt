@@ -3,8 +3,7 @@
 use Prim.Native.Nat.{_≤_, _-_}
 use mathlib.Core.Path.{_≡_}
 use mathlib.Core.Bool.{true}
-use Rattle.rules.specs.Fetch.{fetched}
-use Rattle.places.specs.Wired.{degree-wired}
+use Rattle.board.specs.Board.{edgesOn, placesOn, neOn, fetchedOn, few}
 use Rattle.comb_offloading.specs.Around.{allPermit}
 use Rattle.comb_offloading.proofs.Walk.{permitting}
 use borrow.Author.Needs.{needs}
@@ -12,35 +11,24 @@ use Rattle.comb_offloading.proofs.virtual_match.all_permit.Statement.{s
 use Rattle.comb_offloading.proofs.virtual_match.all_permit.Tie as tie
 
 abbrev Inv-loop : tie.InvT-loop
-Inv-loop edge edges weights registers places degrees ne v n k₀ k =
-    (n ≤ 16) × (k ≤ n) × (allPermit edges registers (fetched edges registers weights ne) (edge .0) places v ne k ≡ true)
+Inv-loop edge board weights registers v n k₀ k =
+    (n ≤ 16) × (k ≤ n) × (allPermit (edgesOn board) registers (fetchedOn board registers weights) (edge .0) (placesOn board) v (neOn board) k ≡ true)
 
 abbrev μ-loop : tie.MeasureT-loop
-μ-loop edge edges weights registers places degrees ne v n k₀ k = n - k
+μ-loop edge board weights registers v n k₀ k =
+    n - k
 
 cast-v : tie.Need-cast-v Inv-loop μ-loop
 cast-v c = search (needs, permitting)
 
-element-copy-out-n : tie.Need-element-copy-out-n Inv-loop μ-loop
-element-copy-out-n c = search (needs, permitting)
+degree-requires : tie.Need-degree-requires Inv-loop μ-loop
+degree-requires c κs = search (needs, permitting)
 
 loop-holds : tie.Need-loop-holds Inv-loop μ-loop
-loop-holds c = search (needs, permitting, degree-wired)
+loop-holds c = search (needs, permitting, few)
 
-mul-permits : tie.Need-mul-permits Inv-loop μ-loop
-mul-permits c = search (needs, permitting)
-
-cast-permits : tie.Need-cast-permits Inv-loop μ-loop
-cast-permits c = search (needs, permitting)
-
-add-permits : tie.Need-add-permits Inv-loop μ-loop
-add-permits c = search (needs, permitting)
-
-mul-permits-2 : tie.Need-mul-permits-2 Inv-loop μ-loop
-mul-permits-2 c = search (needs, permitting)
-
-element-copy-out-permits : tie.Need-element-copy-out-permits Inv-loop μ-loop
-element-copy-out-permits c = search (needs, permitting)
+place-requires : tie.Need-place-requires Inv-loop μ-loop
+place-requires c κs = search (needs, permitting)
 
 permits-requires : tie.Need-permits-requires Inv-loop μ-loop
 permits-requires c κs = search (needs, permitting)
@@ -67,13 +55,9 @@ all-permit-spec =
     Inv-loop
     μ-loop
     cast-v
-    element-copy-out-n
+    degree-requires
     loop-holds
-    mul-permits
-    cast-permits
-    add-permits
-    mul-permits-2
-    element-copy-out-permits
+    place-requires
     permits-requires
     returns
     add-k

@@ -3,7 +3,7 @@ use Prim.Native.Nat.{suc, _+_, _≤_}
 use mathlib.Core.Path.{_≡_}
 use native.Mathlib.Omega.{arith}
 use Rattle.comb_cycle.specs.Cycled.{stateOf}
-use Rattle.comb_cycle.specs.Lent.{graphOf}
+use Rattle.board.specs.Board.{graphOn}
 use Rattle.comb_search.specs.Seek.{seek}
 use Rattle.comb_search.proofs.Again.{Covers, covers, leaps}
 use Rattle.comb_search.proofs.Seeks.{Seeking, begins, ends-found, ends-stopped}
@@ -12,13 +12,13 @@ use Rattle.comb_search.proofs.search.find_obstacle.Statement.{statement
 use Rattle.comb_search.proofs.search.find_obstacle.Tie as tie
 
 abbrev Inv-loop : tie.InvT-loop
-Inv-loop counts vertices edges units degrees places weights registers₀ stalled₀ maximum left₀ growth₀ steps₀ registers stalled left growth steps =
-    Seeking (graphOf counts vertices edges units) weights
-    (seek (graphOf counts vertices edges units) (suc maximum) (stateOf registers₀ weights stalled₀ maximum) 0 0) registers stalled left growth steps
+Inv-loop board weights registers₀ stalled₀ maximum left₀ growth₀ steps₀ registers stalled left growth steps =
+    Seeking (graphOn board) weights
+    (seek (graphOn board) (suc maximum) (stateOf registers₀ weights stalled₀ maximum) 0 0) registers stalled left growth steps
     × (growth + left ≡ maximum) × (steps ≤ growth)
 
 abbrev μ-loop : tie.MeasureT-loop
-μ-loop counts vertices edges units degrees places weights registers₀ stalled₀ maximum left₀ growth₀ steps₀ registers stalled left growth steps = left
+μ-loop board weights registers₀ stalled₀ maximum left₀ growth₀ steps₀ registers stalled left growth steps = left
 
 loop-holds : tie.Need-loop-holds Inv-loop μ-loop
 loop-holds c = search (needs, begins)

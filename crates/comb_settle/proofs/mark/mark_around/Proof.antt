@@ -2,8 +2,7 @@
 -- The measure is what is left of the places.
 use Prim.Native.Nat.{_≤_, _-_}
 use mathlib.Core.Path.{_≡_}
-use Rattle.places.specs.Wired.{degree-wired}
-use Rattle.rules.specs.Fetch.{fetched}
+use Rattle.board.specs.Board.{placesOn, fetchedOn, few}
 use Rattle.comb_settle.specs.Marked.{markAlong}
 use Rattle.comb_settle.proofs.Marking.{around}
 use borrow.Author.Needs.{needs}
@@ -11,10 +10,12 @@ use Rattle.comb_settle.proofs.mark.mark_around.Statement.{statement}
 use Rattle.comb_settle.proofs.mark.mark_around.Tie as tie
 
 abbrev Inv-loop : tie.InvT-loop
-Inv-loop v places degrees edges weights before ne executed marks₀ registers n k₀ marks k = (n ≤ 16) × (k ≤ n) × (marks ≡ markAlong (fetched edges before weights ne) (registers .grown) places v marks₀ k)
+Inv-loop v board weights before executed marks₀ registers n k₀ marks k =
+    (n ≤ 16) × (k ≤ n) × (marks ≡ markAlong (fetchedOn board before weights) (registers .grown) (placesOn board) v marks₀ k)
 
 abbrev μ-loop : tie.MeasureT-loop
-μ-loop v places degrees edges weights before ne executed marks₀ registers n k₀ marks k = n - k
+μ-loop v board weights before executed marks₀ registers n k₀ marks k =
+    n - k
 
 mul-view : tie.Need-mul-view Inv-loop μ-loop
 mul-view c = search (needs, around)
@@ -31,26 +32,14 @@ is-propagating-requires c κs = search (needs, around)
 returns : tie.Need-returns Inv-loop μ-loop
 returns c = search (needs, around)
 
-element-copy-out-n : tie.Need-element-copy-out-n Inv-loop μ-loop
-element-copy-out-n c = search (needs, around)
+degree-requires : tie.Need-degree-requires Inv-loop μ-loop
+degree-requires c κs = search (needs, around)
 
 loop-holds : tie.Need-loop-holds Inv-loop μ-loop
-loop-holds c = search (needs, around, degree-wired)
+loop-holds c = search (needs, around, few)
 
-mul-mark-far : tie.Need-mul-mark-far Inv-loop μ-loop
-mul-mark-far c = search (needs, around)
-
-cast-mark-far : tie.Need-cast-mark-far Inv-loop μ-loop
-cast-mark-far c = search (needs, around)
-
-add-mark-far : tie.Need-add-mark-far Inv-loop μ-loop
-add-mark-far c = search (needs, around)
-
-mul-mark-far-2 : tie.Need-mul-mark-far-2 Inv-loop μ-loop
-mul-mark-far-2 c = search (needs, around)
-
-element-copy-out-mark-far : tie.Need-element-copy-out-mark-far Inv-loop μ-loop
-element-copy-out-mark-far c = search (needs, around)
+place-requires : tie.Need-place-requires Inv-loop μ-loop
+place-requires c κs = search (needs, around)
 
 mark-far-requires : tie.Need-mark-far-requires Inv-loop μ-loop
 mark-far-requires c κs = search (needs, around)
@@ -78,13 +67,9 @@ mark-around-spec =
     view-requires
     is-propagating-requires
     returns
-    element-copy-out-n
+    degree-requires
     loop-holds
-    mul-mark-far
-    cast-mark-far
-    add-mark-far
-    mul-mark-far-2
-    element-copy-out-mark-far
+    place-requires
     mark-far-requires
     add-k
     loop-less

@@ -2,7 +2,7 @@
 -- The measure is what is left of the reach.
 use Prim.Native.Nat.{_≤_, _-_}
 use mathlib.Core.Path.{_≡_}
-use Rattle.rules.specs.Fetch.{fetched}
+use Rattle.board.specs.Board.{edgesOn, neOn, fetchedOn}
 use Rattle.comb_settle.specs.Marked.{marked}
 use Rattle.comb_settle.proofs.Marking.{marking}
 use borrow.Author.Needs.{needs}
@@ -10,16 +10,24 @@ use Rattle.comb_settle.proofs.mark.mark_led.Statement.{statement}
 use Rattle.comb_settle.proofs.mark.mark_led.Tie as tie
 
 abbrev Inv-loop : tie.InvT-loop
-Inv-loop places degrees edges weights before ne executed reach marks₀ v₀ marks v = (reach ≤ 256) × (v ≤ reach) × (marks ≡ marked edges (fetched edges before weights ne) executed ne v)
+Inv-loop board weights before executed marks₀ reach v₀ marks v =
+    (reach ≤ 256) × (v ≤ reach) × (marks ≡ marked (edgesOn board) (fetchedOn board before weights) executed (neOn board) v)
 
 abbrev μ-loop : tie.MeasureT-loop
-μ-loop places degrees edges weights before ne executed reach marks₀ v₀ marks v = reach - v
+μ-loop board weights before executed marks₀ reach v₀ marks v =
+    reach - v
 
 no-vertices-requires : tie.Need-no-vertices-requires Inv-loop μ-loop
 no-vertices-requires c κs = search (needs, marking)
 
+reach-requires : tie.Need-reach-requires Inv-loop μ-loop
+reach-requires c κs = search (needs, marking)
+
 loop-holds : tie.Need-loop-holds Inv-loop μ-loop
 loop-holds c = search (needs, marking)
+
+cast-mark-around : tie.Need-cast-mark-around Inv-loop μ-loop
+cast-mark-around c = search (needs, marking)
 
 mark-around-requires : tie.Need-mark-around-requires Inv-loop μ-loop
 mark-around-requires c κs = search (needs, marking)
@@ -43,7 +51,9 @@ mark-led-spec =
     Inv-loop
     μ-loop
     no-vertices-requires
+    reach-requires
     loop-holds
+    cast-mark-around
     mark-around-requires
     add-v
     loop-less

@@ -1,6 +1,7 @@
 -- The vertices passed were all done, and their words are written. The measure is what is left of n.
 use Rattle.comb_vertex.proofs.Executing.{executing, turn-count, turn-refusal, rest-count, rest-refusal}
 use Rattle.laws.specs.Table.{paint}
+use Rattle.board.specs.Board.{verticesOn}
 use Rattle.rules.specs.Execute.{executeRefusal}
 use Rattle.comb_vertex.specs.Execution.{executedWord, executedCount}
 use mathlib.Core.Option.{none}
@@ -11,14 +12,15 @@ use Rattle.comb_vertex.proofs.execute.execute.Statement.{statement}
 use Rattle.comb_vertex.proofs.execute.execute.Tie as tie
 
 abbrev Inv-loop : tie.InvT-loop
-Inv-loop vertices registers stalled instruction nv out₀ n v₀ out v =
-    (v ≤ n) × (out ≡ paint v (executedWord vertices registers stalled instruction) out₀) × (executedCount vertices registers stalled instruction v ≡ v) × (executeRefusal vertices registers stalled instruction v ≡ none)
+Inv-loop board registers stalled instruction out₀ n v₀ out v =
+    (v ≤ n) × (out ≡ paint v (executedWord (verticesOn board) registers stalled instruction) out₀) × (executedCount (verticesOn board) registers stalled instruction v ≡ v) × (executeRefusal (verticesOn board) registers stalled instruction v ≡ none)
 
 abbrev μ-loop : tie.MeasureT-loop
-μ-loop vertices registers stalled instruction nv out₀ n v₀ out v = n - v
+μ-loop board registers stalled instruction out₀ n v₀ out v =
+    n - v
 
-at-most-requires : tie.Need-at-most-requires Inv-loop μ-loop
-at-most-requires c κs = search (needs, executing)
+nv-requires : tie.Need-nv-requires Inv-loop μ-loop
+nv-requires c κs = search (needs, executing)
 
 loop-holds : tie.Need-loop-holds Inv-loop μ-loop
 loop-holds c = search (needs, executing)
@@ -98,7 +100,7 @@ execute-spec =
     (tie.spec
     Inv-loop
     μ-loop
-    at-most-requires
+    nv-requires
     loop-holds
     cast-is-concerned
     is-concerned-requires

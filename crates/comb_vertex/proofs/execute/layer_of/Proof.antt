@@ -4,18 +4,15 @@ use borrow.Author.Needs.{needs}
 use Rattle.comb_vertex.proofs.execute.layer_of.Statement.{statement}
 use Rattle.comb_vertex.proofs.execute.layer_of.Tie as tie
 
-mul-t4 : tie.Need-mul-t4
-mul-t4 c = search needs
+vertex-requires : tie.Need-vertex-requires
+vertex-requires c κs = search needs
 
-element-copy-out-t7 : tie.Need-element-copy-out-t7
-element-copy-out-t7 c = search needs
-
-cast-t9 : tie.Need-cast-t9
-cast-t9 c = search needs
+cast-t5 : tie.Need-cast-t5
+cast-t5 c = search needs
 
 returns : tie.Need-returns
 unfolding layerOf
-returns c = search needs
+returns c = rw (← c .vertex .ensures)
 
 pub layer-of-spec : {M : Type 1} → statement M
-layer-of-spec = tie.close (tie.spec mul-t4 element-copy-out-t7 cast-t9 returns)
+layer-of-spec = tie.close (tie.spec vertex-requires cast-t5 returns)

@@ -1,7 +1,7 @@
 -- No place passed serves. The measure is what is left of the degree.
 use Rattle.comb_vertex.proofs.Walks.{walks}
 use Rattle.laws.specs.First.{first}
-use Rattle.rules.specs.Fetch.{fetched}
+use Rattle.board.specs.Board.{edgesOn, placesOn, fetchedOn}
 use Rattle.comb_vertex.specs.Led.{servedAt}
 use mathlib.Core.Option.{none}
 use mathlib.Core.Path.{_≡_}
@@ -11,11 +11,12 @@ use Rattle.comb_vertex.proofs.peer.first_peer.Statement.{statement}
 use Rattle.comb_vertex.proofs.peer.first_peer.Tie as tie
 
 abbrev Inv-loop : tie.InvT-loop
-Inv-loop v places degrees edges weights before ne executed degree k₀ k =
-    (k ≤ degree) × (first k (servedAt edges (fetched edges before weights ne) executed places v) ≡ none)
+Inv-loop v board weights before executed degree k₀ k =
+    (k ≤ degree) × (first k (servedAt (edgesOn board) (fetchedOn board before weights) executed (placesOn board) v) ≡ none)
 
 abbrev μ-loop : tie.MeasureT-loop
-μ-loop v places degrees edges weights before ne executed degree k₀ k = degree - k
+μ-loop v board weights before executed degree k₀ k =
+    degree - k
 
 degree-of-requires : tie.Need-degree-of-requires Inv-loop μ-loop
 degree-of-requires c κs = search (needs, walks)
@@ -23,8 +24,11 @@ degree-of-requires c κs = search (needs, walks)
 loop-holds : tie.Need-loop-holds Inv-loop μ-loop
 loop-holds c = search (needs, walks)
 
-place-of-requires : tie.Need-place-of-requires Inv-loop μ-loop
-place-of-requires c κs = search (needs, walks)
+cast-place : tie.Need-cast-place Inv-loop μ-loop
+cast-place c = search (needs, walks)
+
+place-requires : tie.Need-place-requires Inv-loop μ-loop
+place-requires c κs = search (needs, walks)
 
 serves-requires : tie.Need-serves-requires Inv-loop μ-loop
 serves-requires c κs = search (needs, walks)
@@ -58,7 +62,8 @@ first-peer-spec =
     μ-loop
     degree-of-requires
     loop-holds
-    place-of-requires
+    cast-place
+    place-requires
     serves-requires
     cast-lead
     lead-requires

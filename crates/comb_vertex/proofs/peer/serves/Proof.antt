@@ -18,11 +18,8 @@ is-propagating-requires c κs = search needs
 cast-e : tie.Need-cast-e
 cast-e c = search needs
 
-mul-post-fetch-is-tight : tie.Need-mul-post-fetch-is-tight
-mul-post-fetch-is-tight c = search needs
-
-element-copy-out-post-fetch-is-tight : tie.Need-element-copy-out-post-fetch-is-tight
-element-copy-out-post-fetch-is-tight c = search needs
+edge-requires : tie.Need-edge-requires
+edge-requires c κs = search needs
 
 fetch-weight-requires : tie.Need-fetch-weight-requires
 fetch-weight-requires c κs = search needs
@@ -32,7 +29,7 @@ post-fetch-is-tight-requires c κs = search needs
 
 returns : tie.Need-returns
 unfolding servesTo
-returns c = rw (← c .before .before .before .before .before .at .ensures, tight-by, ← c .before .fetch-weight .ensures) (search (needs, tests))
+returns c = rw (← c .before .before .before .before .before .at .ensures, tight-by, ← c .before .before .edge .ensures, ← c .before .fetch-weight .ensures) (search (needs, tests))
 
 returns-2 : tie.Need-returns-2
 unfolding servesTo
@@ -46,8 +43,7 @@ serves-spec =
     at-requires
     is-propagating-requires
     cast-e
-    mul-post-fetch-is-tight
-    element-copy-out-post-fetch-is-tight
+    edge-requires
     fetch-weight-requires
     post-fetch-is-tight-requires
     returns

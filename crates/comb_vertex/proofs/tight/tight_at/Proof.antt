@@ -5,17 +5,14 @@ use borrow.Author.Needs.{needs}
 use Rattle.comb_vertex.proofs.tight.tight_at.Statement.{statement}
 use Rattle.comb_vertex.proofs.tight.tight_at.Tie as tie
 
-place-of-requires : tie.Need-place-of-requires
-place-of-requires c κs = search needs
+place-requires : tie.Need-place-requires
+place-requires c κs = search needs
 
 cast-e : tie.Need-cast-e
 cast-e c = search needs
 
-mul-post-fetch-count-tight : tie.Need-mul-post-fetch-count-tight
-mul-post-fetch-count-tight c = search needs
-
-element-copy-out-post-fetch-count-tight : tie.Need-element-copy-out-post-fetch-count-tight
-element-copy-out-post-fetch-count-tight c = search needs
+edge-requires : tie.Need-edge-requires
+edge-requires c κs = search needs
 
 fetch-weight-requires : tie.Need-fetch-weight-requires
 fetch-weight-requires c κs = search needs
@@ -25,16 +22,15 @@ post-fetch-count-tight-requires c κs = search needs
 
 returns : tie.Need-returns
 unfolding tightAt
-returns c = rw (← c .before .before .before .place-of .ensures, counted-tight-by, ← c .before .fetch-weight .ensures) (c .post-fetch-count-tight .ensures)
+returns c = rw (← c .before .before .before .place .ensures, counted-tight-by, ← c .before .before .edge .ensures, ← c .before .fetch-weight .ensures) (c .post-fetch-count-tight .ensures)
 
 pub tight-at-spec : {M : Type 1} → statement M
 tight-at-spec =
     tie.close
     (tie.spec
-    place-of-requires
+    place-requires
     cast-e
-    mul-post-fetch-count-tight
-    element-copy-out-post-fetch-count-tight
+    edge-requires
     fetch-weight-requires
     post-fetch-count-tight-requires
     returns)

@@ -1,7 +1,6 @@
 -- The mask holds the bits of the places passed. The measure is what is left of the degree.
 use Rattle.laws.specs.Mask.{maskOf, masks}
-use Rattle.rules.specs.Fetch.{fetched}
-use Rattle.comb_vertex.specs.Tight.{tightAt}
+use Rattle.comb_vertex.specs.Tight.{tightOn}
 use mathlib.Core.Path.{_≡_}
 use Prim.Native.Nat.{_≤_, _-_}
 use borrow.Author.Needs.{needs}
@@ -9,11 +8,12 @@ use Rattle.comb_vertex.proofs.tight.tight_mask.Statement.{statement}
 use Rattle.comb_vertex.proofs.tight.tight_mask.Tie as tie
 
 abbrev Inv-loop : tie.InvT-loop
-Inv-loop v places degrees edges weights registers ne degree mask₀ k₀ mask k =
-    (k ≤ degree) × (mask ≡ maskOf k (tightAt edges registers (fetched edges registers weights ne) places v))
+Inv-loop v board weights registers degree mask₀ k₀ mask k =
+    (k ≤ degree) × (mask ≡ maskOf k (tightOn board registers weights v))
 
 abbrev μ-loop : tie.MeasureT-loop
-μ-loop v places degrees edges weights registers ne degree mask₀ k₀ mask k = degree - k
+μ-loop v board weights registers degree mask₀ k₀ mask k =
+    degree - k
 
 degree-of-requires : tie.Need-degree-of-requires Inv-loop μ-loop
 degree-of-requires c κs = search (needs, masks)

@@ -1,0 +1,4 @@
+pub mod Splitting
+pub mod Chunks
+pub mod Cuts
+pub mod Session
