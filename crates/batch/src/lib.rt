@@ -1,10 +1,11 @@
 // The batch of a program of the gate: sessions, each after its length in four bytes, the low byte first. And a number to be written.
+#![tactic(auto)]
 ghost use Rattle.std.specs.Prelude.{◌≡◌, length};
 ghost use Rattle.batch.specs.Fetched.{fetched};
 
 use records::value_at;
 
-#[derive(Drop)]
+#[derive(Clone, Copy)]
 pub enum Next {
     Session(usize),
     End,

@@ -1,6 +1,7 @@
 // Answers a session from memory, on one decoder, as often as the first four bytes of standard input say, the low byte first, and writes how many
 // findings, growth steps and pairs that gave in all. The session comes after them. bench/run times it: meanwhile no line is made, and nothing is
 // read or written.
+#![tactic(auto)]
 mod call;
 
 use crate::call::{add, run_records};

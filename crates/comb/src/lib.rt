@@ -1,4 +1,5 @@
 // The decoder: a graph, and a state by value that each call takes and gives back. Every value of either is answered.
+#![tactic(auto)]
 ghost use Rattle.std.specs.Prelude.{◌≡◌, length};
 ghost use Rattle.rules.specs.Image as Image;
 ghost use Rattle.rules.specs.Instruct as Instruct;
@@ -19,7 +20,7 @@ use rules::instruction::Instruction;
 use rules::state::{Cycle, Searched, State, WordCycle};
 
 // A refused image opens no decoder: its graph is blank.
-#[derive(Drop)]
+#[derive(Clone, Copy)]
 pub struct Decoder {
     pub graph: Graph,
     pub state: State,

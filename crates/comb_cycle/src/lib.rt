@@ -1,4 +1,5 @@
 // One instruction on lent tables: stages 1 to 8.
+#![tactic(auto)]
 pub mod cycle;
 mod growing;
 mod rank;

@@ -8,7 +8,7 @@ use rules::finding::{Finding, Length, Response};
 use rules::index::EdgeIndex;
 use rules::tables::{Registers, Weights};
 
-#[derive(Drop)]
+#[derive(Clone, Copy)]
 pub enum Report {
     Odd,
     Conflict(EdgeIndex),

@@ -1,4 +1,5 @@
 // Stage 2: which units hold, and what they stall.
+#![tactic(auto)]
 mod boundary;
 mod defect_match;
 mod edge;

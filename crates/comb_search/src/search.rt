@@ -11,7 +11,7 @@ use rules::finding::{Sought, Tally};
 use rules::tables::{Registers, Stalls, Weights};
 
 // The maximum that a search leaves, and its answer.
-#[derive(Drop)]
+#[derive(Clone, Copy)]
 pub struct Search {
     pub left: u32,
     pub answer: Sought,

@@ -13,7 +13,7 @@ use rules::refusal::Refusal;
 use rules::tables::{Registers, Stalls, Weights};
 
 // What a finding leads to.
-#[derive(Drop)]
+#[derive(Clone, Copy)]
 pub(crate) enum Next {
     Stop(Finding),
     // A negative length.
@@ -21,7 +21,7 @@ pub(crate) enum Next {
     Grow(u32),
 }
 
-#[derive(Drop)]
+#[derive(Clone, Copy)]
 pub(crate) enum Turn {
     Found(Finding),
     Stopped(Refusal),

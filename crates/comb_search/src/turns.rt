@@ -8,7 +8,7 @@ use crate::turn::{Turn, take_turn};
 use board::Board;
 use rules::tables::{Registers, Stalls, Weights};
 
-#[derive(Drop)]
+#[derive(Clone, Copy)]
 pub(crate) struct Turns {
     pub turn: Turn,
     pub more: u32,

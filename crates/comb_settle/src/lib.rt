@@ -1,4 +1,5 @@
 // Stages 5 and 6 over all vertices, and what these report in stage 7.
+#![tactic(auto)]
 mod mark;
 
 ghost use Rattle.std.specs.Prelude.{false, not, ◌&&◌, ◌≡◌, eqb};
@@ -23,7 +24,7 @@ use rules::registers::{PropagatingPeer, VertexRegisters, view};
 use rules::tables::{Registers, VertexFlags, Weights};
 
 // What stages 5 and 6 make of one vertex.
-#[derive(Drop)]
+#[derive(Clone, Copy)]
 struct Settled {
     updated: u64,
     shadow: u64,

@@ -17,7 +17,7 @@ use rules::registers::{Executed, VertexRegisters};
 use rules::tables::{Registers, VertexFlags};
 
 // Whether all vertices took the instruction, or 14 or 15.
-#[derive(Drop)]
+#[derive(Clone, Copy)]
 pub enum Execution {
     Done,
     Refused(Refusal),

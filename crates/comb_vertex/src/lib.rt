@@ -1,4 +1,5 @@
 // Stages 3 to 7 over a graph's vertices.
+#![tactic(auto)]
 pub mod execute;
 pub mod peer;
 pub mod tight;

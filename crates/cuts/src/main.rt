@@ -1,5 +1,6 @@
 // Replays each session of standard input in chunks of 1 to 17 bytes, so that records are cut at every place, and writes the listings with a line
 // `=` between them.
+#![tactic(auto)]
 use batch::{Next, next_session};
 use rules::graph::{Graph, Opening, at_most};
 use rules::state::State;

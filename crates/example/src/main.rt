@@ -1,4 +1,5 @@
 // The decoder as a library: an image, two defects, a search and the pairs, and what each call answers.
+#![tactic(auto)]
 use rules::finding::{Answer, Finding, Length, Listed, Sought};
 use rules::index::{NodeIndex, VertexIndex};
 use rules::instruction::Instruction;

@@ -1,4 +1,5 @@
 // A DCT image to a graph, its flags applied, or the refusal that document 01 names.
+#![tactic(auto)]
 ghost use Rattle.std.specs.Prelude.{◌≡◌, ◌≤◌, ◌<◌, replicate};
 ghost use Rattle.std.proofs.Math.Option.{none};
 ghost use Rattle.laws.specs.Choice.{pick};
@@ -141,7 +142,7 @@ fn unit_table(bytes: &[u8], n: u16) -> [u32; 2048]
     words
 }
 
-#[derive(Drop)]
+#[derive(Clone, Copy)]
 struct Units {
     count: usize,
     words: [u32; 2048],

@@ -1,9 +1,10 @@
 // The header and the records of a DCT image, by index. A byte past the end reads as 0, so that each index has its record.
+#![tactic(auto)]
 ghost use Rattle.std.specs.Prelude.{◌≡◌, ◌<◌};
 ghost use Rattle.rules.specs.Image.{byte_at, u16_at, u32_at, is_an_image, fusion, offloading, edge_at, unit_at};
 ghost use Rattle.image_records.specs.Records.{header_of, vertex_record, edge_record, unit_record};
 
-#[derive(Drop)]
+#[derive(Clone, Copy)]
 pub struct Header {
     pub is_image: bool,
     pub vertices: u16,
@@ -12,13 +13,13 @@ pub struct Header {
     pub session: usize,
 }
 
-#[derive(Drop)]
+#[derive(Clone, Copy)]
 pub struct VertexRecord {
     pub default_virtual: u8,
     pub layer: u16,
 }
 
-#[derive(Drop)]
+#[derive(Clone, Copy)]
 pub struct EdgeRecord {
     pub left: u16,
     pub right: u16,
@@ -26,7 +27,7 @@ pub struct EdgeRecord {
     pub condition: u16,
 }
 
-#[derive(Drop)]
+#[derive(Clone, Copy)]
 pub struct UnitRecord {
     pub kind: u8,
     pub edge: u16,

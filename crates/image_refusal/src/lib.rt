@@ -1,4 +1,5 @@
 // Why an image is refused: numbers 1 to 11, in order of checking.
+#![tactic(auto)]
 ghost use Rattle.std.specs.Prelude.{◌≡◌, ◌≤◌, replicate};
 ghost use Rattle.laws.specs.First.{first};
 ghost use Rattle.rules.specs.Image.{vertex_count, head_refusal, vertex_refusal, edge_refusal, unit_refusal, image_refusal};
@@ -7,7 +8,7 @@ ghost use Rattle.image_refusal.specs.Check.{check_of, after_test, is_end_of, rec
 use image_records::{EdgeRecord, UnitRecord};
 use rules::refusal::Refusal;
 
-#[derive(Drop)]
+#[derive(Clone, Copy)]
 pub enum Check {
     Passed,
     Refused(Refusal),

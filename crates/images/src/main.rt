@@ -1,5 +1,6 @@
 // Opens each image of standard input, and writes a line for it: `DCT`, V, E, the number of units, where its session records start and a
 // checksum of its graph, or `bad` and the refusal's number. Each image comes after its length in four bytes, the low byte first.
+#![tactic(auto)]
 use batch::{Next, next_session, put_number};
 use rules::graph::{Graph, Opened, Opening, at_most};
 

@@ -1,4 +1,5 @@
 // The reduction of findings, and the order of a conflict's sides.
+#![tactic(auto)]
 ghost use Rattle.std.specs.Prelude.{◌≡◌};
 ghost use Rattle.rules.specs.Reduce as Reduce;
 ghost use Rattle.rules.specs.Search.{ordered, is_absent};

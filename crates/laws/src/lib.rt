@@ -1,1 +1,2 @@
 // Laws over any element type: tables that loops fill, folds, firsts, masks. There is no code here; specs/ has them all.
+#![tactic(auto)]

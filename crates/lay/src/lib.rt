@@ -1,4 +1,5 @@
 // A board, made of a graph.
+#![tactic(auto)]
 pub mod wire;
 
 ghost use Rattle.std.specs.Prelude.{◌≡◌, ◌+◌, ◌≤◌, length};

@@ -10,7 +10,7 @@ ghost use Rattle.lay.specs.Placing.{Cleared, PlacedAll};
 use board::Board;
 
 // How many edges are in use, and how far their ends reach.
-#[derive(Drop)]
+#[derive(Clone, Copy)]
 struct Placed {
     ne: usize,
     reach: usize,

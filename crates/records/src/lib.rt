@@ -1,11 +1,12 @@
 // Session records: what one is answered, why the work on a chunk of them stopped, and the number that stands in one.
+#![tactic(auto)]
 ghost use Rattle.std.specs.Prelude.{◌≡◌, ◌+◌, ◌<◌, ◌≤◌, length};
 ghost use Rattle.records.specs.Records.{value_at};
 
 use rules::finding::{Sought, WordAnswer};
 
 // What a record is answered. A search comes with the maximum that it left.
-#[derive(Drop)]
+#[derive(Clone, Copy)]
 pub enum Answered {
     Word(WordAnswer),
     Search(Sought, u32),
@@ -14,7 +15,7 @@ pub enum Answered {
 }
 
 // Why a chunk went no further: a record in it is cut short, the longest line finds no room, or a record of another kind ended the replay.
-#[derive(Drop)]
+#[derive(Clone, Copy)]
 pub enum Stop {
     WantsBytes,
     WantsRoom,

@@ -1,4 +1,5 @@
 // Reads an image and its session records from standard input, and writes the listing to standard output.
+#![tactic(auto)]
 mod input;
 
 ghost use Rattle.std.specs.Prelude.{◌≤◌, length};

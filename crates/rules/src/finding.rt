@@ -3,7 +3,7 @@ use crate::index::{NodeIndex, VertexIndex};
 use crate::refusal::Refusal;
 
 // A signed length. specs/Numbers.antt gives document 01's number, 2,147,483,647 for no limit.
-#[derive(Drop)]
+#[derive(Clone, Copy)]
 pub enum Length {
     NoLimit,
     Ahead(u32),
@@ -11,41 +11,41 @@ pub enum Length {
 }
 
 // A node or a touch as a finding shows it. The virtual node is absent: it is the boundary.
-#[derive(Drop)]
+#[derive(Clone, Copy)]
 pub enum Node {
     Absent,
     Number(NodeIndex),
 }
 
-#[derive(Drop)]
+#[derive(Clone, Copy)]
 pub struct Side {
     pub node: Node,
     pub touch: Node,
     pub vertex: VertexIndex,
 }
 
-#[derive(Drop)]
+#[derive(Clone, Copy)]
 pub enum Finding {
     GrowLength(Length),
     Conflict(Side, Side),
 }
 
 // What one edge reports in stage 7.
-#[derive(Drop)]
+#[derive(Clone, Copy)]
 pub enum Response {
     Reports(Finding),
     OddRemaining,
 }
 
 // What an instruction is answered.
-#[derive(Drop)]
+#[derive(Clone, Copy)]
 pub enum Answer {
     Found(Finding),
     Refused(Refusal),
 }
 
 // What a word is answered: it may carry a reset.
-#[derive(Drop)]
+#[derive(Clone, Copy)]
 pub enum WordAnswer {
     Found(Finding),
     Reset,
@@ -53,20 +53,20 @@ pub enum WordAnswer {
 }
 
 // The sum of a search's completed growth steps, and how many these are.
-#[derive(Drop)]
+#[derive(Clone, Copy)]
 pub struct Tally {
     pub growth: u32,
     pub steps: u32,
 }
 
-#[derive(Drop)]
+#[derive(Clone, Copy)]
 pub enum Sought {
     NotBegun(Refusal),
     Found(Finding, Tally),
     Stopped(Refusal, Tally),
 }
 
-#[derive(Drop)]
+#[derive(Clone, Copy)]
 pub enum Listed {
     Count(usize),
     Refused(Refusal),

@@ -4,7 +4,7 @@ ghost use Rattle.std.specs.Prelude.{◌≡◌, min};
 use crate::index::{EdgeIndex, VertexIndex};
 use crate::refusal::Refusal;
 
-#[derive(Drop)]
+#[derive(Clone, Copy)]
 pub enum OffloadingType {
     DefectMatch {
         edge: EdgeIndex,
@@ -20,7 +20,7 @@ pub enum OffloadingType {
 }
 
 // The first nv, ne and nu entries are in use.
-#[derive(Drop)]
+#[derive(Clone, Copy)]
 pub struct Graph {
     pub nv: usize,
     pub ne: usize,
@@ -32,14 +32,14 @@ pub struct Graph {
 }
 
 // The image's own number of units, and where the session records start.
-#[derive(Drop)]
+#[derive(Clone, Copy)]
 pub enum Opening {
     Accepted { units: usize, start: usize },
     Refused(Refusal),
 }
 
 // A refused image comes with a blank graph.
-#[derive(Drop)]
+#[derive(Clone, Copy)]
 pub struct Opened {
     pub graph: Graph,
     pub opening: Opening,

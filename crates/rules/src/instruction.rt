@@ -2,7 +2,7 @@
 use crate::index::{LayerId, NodeIndex, VertexIndex};
 use crate::refusal::Refusal;
 
-#[derive(Drop)]
+#[derive(Clone, Copy)]
 pub enum CompactGrowState {
     Stay,
     Grow,
@@ -10,7 +10,7 @@ pub enum CompactGrowState {
 }
 
 // A length is 32 bits read as signed, so one of 2,147,483,648 or more is negative.
-#[derive(Drop)]
+#[derive(Clone, Copy)]
 pub enum Instruction {
     SetSpeed {
         node: NodeIndex,
@@ -34,14 +34,14 @@ pub enum Instruction {
 }
 
 // Where a number stands in a word: its lowest bit, and how many bits it has.
-#[derive(Drop)]
+#[derive(Clone, Copy)]
 pub struct Field {
     pub at: u32,
     pub width: u32,
 }
 
 // A kind of word: the value of its lowest bits and how many these are, the same of its extended code from bit 3 on, and its fields A and B.
-#[derive(Drop)]
+#[derive(Clone, Copy)]
 pub struct WordKind {
     pub low: u32,
     pub lows: u32,
@@ -52,14 +52,14 @@ pub struct WordKind {
 }
 
 // What a word asks.
-#[derive(Drop)]
+#[derive(Clone, Copy)]
 pub enum Unpacked {
     Says(Instruction),
     Reset,
     Refused(Refusal),
 }
 
-#[derive(Drop)]
+#[derive(Clone, Copy)]
 pub enum Packed {
     Word(u32),
     Refused(Refusal),

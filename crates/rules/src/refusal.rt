@@ -1,5 +1,5 @@
 // The refusals of document 01, in order of checking. specs/Numbers.antt gives each its number, 1 to 19.
-#[derive(Drop)]
+#[derive(Clone, Copy)]
 pub enum Refusal {
     NotAnImage,
     VertexCount,

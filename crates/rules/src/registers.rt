@@ -7,7 +7,7 @@ ghost use Rattle.rules.specs.Registers as Registers;
 use crate::index::NodeIndex;
 use crate::instruction::CompactGrowState;
 
-#[derive(Drop)]
+#[derive(Clone, Copy)]
 pub struct VertexRegisters {
     pub speed: CompactGrowState,
     pub grown: u32,
@@ -18,7 +18,7 @@ pub struct VertexRegisters {
 }
 
 // What stage 3 makes of one vertex: its new registers, or the refusal 14 or 15.
-#[derive(Drop)]
+#[derive(Clone, Copy)]
 pub enum Executed {
     Done(VertexRegisters),
     BelowZero,
@@ -26,7 +26,7 @@ pub enum Executed {
 }
 
 // What stage 4 finds for one vertex.
-#[derive(Drop)]
+#[derive(Clone, Copy)]
 pub enum PropagatingPeer {
     Nobody,
     Leads { node: NodeIndex, root: NodeIndex },

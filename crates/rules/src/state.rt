@@ -3,7 +3,7 @@ use crate::finding::{Answer, Sought, WordAnswer};
 use crate::tables::{Registers, Stalls, Weights};
 
 // Registers of the vertices, weight registers of the edges, the pair list as a flag for each edge, and the maximum.
-#[derive(Drop)]
+#[derive(Clone, Copy)]
 pub struct State {
     pub registers: Registers,
     pub weights: Weights,
@@ -11,19 +11,19 @@ pub struct State {
     pub maximum: u32,
 }
 
-#[derive(Drop)]
+#[derive(Clone, Copy)]
 pub struct Cycle {
     pub state: State,
     pub answer: Answer,
 }
 
-#[derive(Drop)]
+#[derive(Clone, Copy)]
 pub struct WordCycle {
     pub state: State,
     pub answer: WordAnswer,
 }
 
-#[derive(Drop)]
+#[derive(Clone, Copy)]
 pub struct Searched {
     pub state: State,
     pub answer: Sought,

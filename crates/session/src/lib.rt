@@ -1,5 +1,6 @@
 // The work on a chunk of session records. A program reads, runs chunks of what it has read, and writes their lines; proofs/Cuts.antt proves that
 // however its input is cut, it writes the session's listing.
+#![tactic(auto)]
 ghost use Rattle.std.specs.Prelude.{◌≡◌, ◌≤◌, length};
 ghost use Rattle.board.specs.Board.{graph_on, Laid};
 ghost use Rattle.laws.specs.Placed.{placed};
@@ -15,7 +16,7 @@ use rules::graph::Graph;
 use rules::state::State;
 
 // The state that is left, how many bytes were used and written, and why no more.
-#[derive(Drop)]
+#[derive(Clone, Copy)]
 pub struct Done {
     pub state: State,
     pub used: usize,
@@ -24,7 +25,7 @@ pub struct Done {
 }
 
 // What the end of the input wrote, or that its line finds no room.
-#[derive(Drop)]
+#[derive(Clone, Copy)]
 pub enum Last {
     Wrote(usize),
     WantsRoom,

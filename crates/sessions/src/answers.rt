@@ -9,7 +9,7 @@ use rules::state::{Searched, State};
 use text_out::count;
 
 // The state after a record, and where the output goes on.
-#[derive(Drop)]
+#[derive(Clone, Copy)]
 struct Shown {
     state: State,
     at: usize,

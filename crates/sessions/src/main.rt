@@ -1,5 +1,6 @@
 // Answers each session of standard input: its listing, and after each record's line a line for every vertex's registers. Each session comes
 // after its length in four bytes, the low byte first; a line `=` stands between the answers. So the Rust answers them in oracle/.
+#![tactic(auto)]
 mod answers;
 mod registers;
 mod text;

@@ -1,4 +1,5 @@
 // What a replay writes to standard output, and when it has no more to do.
+#![tactic(auto)]
 ghost use Rattle.std.specs.Prelude.{◌≡◌, false, ◌<◌, min, length};
 ghost use Rattle.rules.specs.Listing.{line, first_line};
 ghost use Rattle.listing.specs.Heads.{bad_text};

@@ -3,6 +3,7 @@
 //     i 32768     the words with this index in each place that takes one
 //     l 2         the word that grows by this length
 // tools/expect_words.py makes the lines, and what is to be written for each, from document 01 and from what the Rust packed.
+#![tactic(auto)]
 ghost use Rattle.std.specs.Prelude.{◌≤◌};
 
 use rules::index::{LayerId, NodeIndex, VertexIndex};
@@ -145,7 +146,7 @@ fn with_digit(number: u32, byte: u8) -> u32 {
     (longer % 4294967296) as u32
 }
 
-#[derive(Drop)]
+#[derive(Clone, Copy)]
 struct Line {
     number: u32,
     next: usize,
