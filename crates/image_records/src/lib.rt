@@ -1,5 +1,6 @@
 // The header and the records of a DCT image, by index. A byte past the end reads as 0, so that each index has its record.
 #![tactic(auto)]
+
 ghost use Rattle.std.specs.Prelude.{◌≡◌, ◌<◌};
 ghost use Rattle.rules.specs.Image.{byte_at, u16_at, u32_at, is_an_image, fusion, offloading, edge_at, unit_at};
 ghost use Rattle.image_records.specs.Records.{header_of, vertex_record, edge_record, unit_record};

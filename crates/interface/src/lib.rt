@@ -1,5 +1,6 @@
 // The reduction of findings, and the order of a conflict's sides.
 #![tactic(auto)]
+
 ghost use Rattle.std.specs.Prelude.{◌≡◌};
 ghost use Rattle.rules.specs.Reduce as Reduce;
 ghost use Rattle.rules.specs.Search.{ordered, is_absent};

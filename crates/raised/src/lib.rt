@@ -1,5 +1,6 @@
 // Raised flags, counted.
 #![tactic(auto)]
+
 ghost use Rattle.std.specs.Prelude.{◌≡◌, ◌≤◌, ltb, length};
 ghost use Rattle.laws.specs.Fold as Fold;
 ghost use Rattle.rules.specs.Pairs.{raised_from};

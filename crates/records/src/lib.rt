@@ -1,5 +1,6 @@
 // Session records: what one is answered, why the work on a chunk of them stopped, and the number that stands in one.
 #![tactic(auto)]
+
 ghost use Rattle.std.specs.Prelude.{◌≡◌, ◌+◌, ◌<◌, ◌≤◌, length};
 ghost use Rattle.records.specs.Records.{value_at};
 
