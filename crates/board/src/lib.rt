@@ -1,6 +1,7 @@
 // A graph and what is worked out from it, in one table: made by `lay`, and read by these functions alone (specs/Board.antt says where each part
 // stands).
 #![tactic(auto)]
+
 ghost use Rattle.std.specs.Prelude.{◌≡◌, ◌+◌, ◌*◌, ◌<◌, get_or};
 ghost use Rattle.laws.specs.Table.{table};
 ghost use Rattle.board.specs.Board.{vertices_on, degrees_on, edges_on, units_on, places_on, defaults_on, nv_on, ne_on, nu_on, reach_on};

@@ -1,5 +1,6 @@
 // Stages 1 and 7 of one edge, from its entry in the graph, its fetch weight and the vertices' registers.
 #![tactic(auto)]
+
 use board::Board;
 use rules::finding::{Length, Response};
 use rules::index::VertexIndex;

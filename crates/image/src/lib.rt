@@ -1,5 +1,6 @@
 // A DCT image to a graph, its flags applied, or the refusal that document 01 names.
 #![tactic(auto)]
+
 ghost use Rattle.std.specs.Prelude.{◌≡◌, ◌≤◌, ◌<◌, replicate};
 ghost use Rattle.std.proofs.Math.Option.{none};
 ghost use Rattle.laws.specs.Choice.{pick};

@@ -1,5 +1,6 @@
 // Why an image is refused: numbers 1 to 11, in order of checking.
 #![tactic(auto)]
+
 ghost use Rattle.std.specs.Prelude.{◌≡◌, ◌≤◌, replicate};
 ghost use Rattle.laws.specs.First.{first};
 ghost use Rattle.rules.specs.Image.{vertex_count, head_refusal, vertex_refusal, edge_refusal, unit_refusal, image_refusal};

@@ -1,6 +1,7 @@
 // The lines of a replay's listing, each as bytes put into a lent buffer. A function returns the position after its line; where the buffer
 // lacks the room that the longest such line may take, it writes nothing and returns the position it was given.
 #![tactic(auto)]
+
 mod answer;
 mod decimal;
 mod finding;

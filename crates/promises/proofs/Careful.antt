@@ -80,7 +80,7 @@ module _ (g : Graph) (s m t : State) (f h : Finding) (n : ℕ) (sound : Sound g 
 
   module _ (v : ℕ) (l : v < (in_use g).nv) where
     fit : v < length m.registers
-    fit = omega (arith, vertices_fit g, sound-middle.whole)
+    fit = omega (arith, vertices_fit g, sound_middle.whole)
 
     shown_is : shown (in_use g) s v ≡ shadow_at (in_use g).vertices (in_use g).edges (weights_fetched (in_use g) s) (after_execute (in_use g) s FindObstacle) m.registers (vertices_stalled (in_use g) s) (in_use g).ne (in_use g).nv v
     shown_is =
@@ -94,7 +94,7 @@ module _ (g : Graph) (s m t : State) (f h : Finding) (n : ℕ) (sound : Sound g 
     unfolding execute_at execute still
     executes = rw stalls_same
 
-    grown_is : (at t.registers v).grown ≡ grownTo.grown
+    grown_is : (at t.registers v).grown ≡ grown_to.grown
     grown_is =
         let xs = after_execute (in_use g) m (GrowBy n) in
         ap (λ (r : List ℕ). (at r v).grown) grow.registers
@@ -114,7 +114,7 @@ module _ (g : Graph) (s m t : State) (f h : Finding) (n : ℕ) (sound : Sound g 
       shadows_has (in_use g).vertices (in_use g).edges (weights_fetched (in_use g) s) (after_execute (in_use g) s FindObstacle) (after_update (in_use g) s FindObstacle) (vertices_stalled (in_use g) s) (in_use g).ne (in_use g).nv
       (λ (x : VertexRegisters). Moves x.speed n (at m.registers v).grown (at t.registers v).grown) v
       (λ k. let z : ⊥ = omega arith in absurd z)
-      (rw (← find.registers, sound-middle.beyond v l, sound-after.beyond v l) refl)
+      (rw (← find.registers, sound_middle.beyond v l, sound_after.beyond v l) refl)
 
   pub moves : (v : ℕ) → Moves (shown (in_use g) s v).speed n (at m.registers v).grown (at t.registers v).grown
   moves v = by_place (ltb v (in_use g).nv) refl

@@ -47,7 +47,7 @@ module _ (g : Graph) where
     link_allows = ahead_allows e.length l.limit (omega (arith, l.clamped))
 
     pub link_maximum : t.maximum + e.length ≡ s.maximum
-    link_maximum = omega (arith, ap (λ (x : State). x.maximum) l.lowered, l.clamped, link-grow.maximum, link-find.maximum)
+    link_maximum = omega (arith, ap (λ (x : State). x.maximum) l.lowered, l.clamped, link_grow.maximum, link_find.maximum)
 
     pub link_lower : t.maximum < s.maximum
     link_lower = omega (arith, link_maximum, l.some)
