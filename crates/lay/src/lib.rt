@@ -1,5 +1,6 @@
 // A board, made of a graph.
 #![tactic(auto)]
+
 pub mod wire;
 
 ghost use Rattle.std.specs.Prelude.{◌≡◌, ◌+◌, ◌≤◌, length};
