@@ -1,14 +1,11 @@
 -- What the turns of the stage 3 loop and its ways out show, over variables: x is what stage 3 makes of vertex v.
 use Prim.Native.Nat.{ℕ, ◌+◌, ◌≤◌, ◌<◌}
 use mathlib.Core.Path.{◌≡◌, refl, sym, ap, ◌∙◌}
-use mathlib.Core.Bool.{Bool, true, false, not}
-use mathlib.Core.List.{List, [], ◌∷◌}
-use mathlib.Core.Logic.{⊎_elim}
+use mathlib.Core.Bool.{Bool, true, false}
+use mathlib.Core.List.{List}
 use mathlib.Core.Option.{Option, none}
 use native.Mathlib.Omega.{arith}
 use lib.ListN.{get_or}
-use types.Run.{OneOf}
-use denote.Enum.Declared.{tag_of}
 use Rattle.laws.specs.Choice.{pick}
 use Rattle.laws.specs.First.{first, first_none, first_pass, first_stop}
 use Rattle.laws.specs.Leading.{leading_none, leading_pass, leading_stop}
@@ -22,29 +19,24 @@ use Rattle.rules.specs.declared.refusal.Refusal.TheVariants as R
 use Rattle.rules.specs.declared.registers.VertexRegisters.{VertexRegisters}
 use Rattle.rules.specs.declared.registers.Executed.{Executed}
 use Rattle.rules.specs.declared.registers.Executed.TheVariants.{Done as DoneWith, BelowZero, AboveBound}
-use Rattle.rules.specs.contracts.registers.Executed as E
 use Rattle.comb_vertex.specs.Execution.{execution, is_done, concerns, unconcerned, executed_word, executed_count, executed_into}
 use Rattle.comb_vertex.specs.declared.execute.Execution.{Execution}
 use Rattle.comb_vertex.specs.declared.execute.Execution.TheVariants.{Done}
 
--- a tag that is left after Done
+-- what is left after Done
 abbrev Left : Executed → Type 0
-Left x = OneOf (1 ∷ 2 ∷ []) (tag_of E.the_type x)
+Left x = (y : VertexRegisters) → x ≡ DoneWith y → ⊥
 
 not_done : (x : Executed) → Left x → is_done x ≡ false
-not_done (DoneWith y) h = absurd (⊎_elim (λ e. omega arith) (λ e. omega arith) h)
+not_done (DoneWith y) h = absurd (h y refl)
 not_done BelowZero h = refl
 not_done AboveBound h = refl
 
 -- the first refusal is that of x
 decides : (f : ℕ → Option Refusal) (v m : ℕ) (x : Executed) → Left x → first v f ≡ none → f v ≡ refusal_of x → v < m → first m f ≡ refusal_of x
-decides f v m (DoneWith y) h p q l = absurd (⊎_elim (λ e. omega arith) (λ e. omega arith) h)
+decides f v m (DoneWith y) h p q l = absurd (h y refl)
 decides f v m BelowZero h p q l = first_stop v m f R.BelowZero l p q
 decides f v m AboveBound h p q l = first_stop v m f R.AboveBound l p q
-
-was_off : (b : Bool) → not b ≡ true → b ≡ false
-was_off true q = sym q
-was_off false q = refl
 
 module _ (vs rs : List ℕ) (stalled : List Bool) (i : Instruction) where
   pub start_refusal : execute_refusal vs rs stalled i 0 ≡ none
@@ -68,7 +60,7 @@ module _ (vs rs : List ℕ) (stalled : List Bool) (i : Instruction) where
       unfolding executed_count
       turn_count p = leading_pass (λ w. is_done (execute_at vs rs stalled i w)) v p (rw done_at_lem)
 
-      pub turn_word : (z : ℕ) (b : Bool) → z ≡ keep y → not b ≡ false → b ≡ concerns i v (at rs v) → z ≡ executed_word vs rs stalled i v
+      pub turn_word : (z : ℕ) (b : Bool) → z ≡ keep y → b ≡ true → b ≡ concerns i v (at rs v) → z ≡ executed_word vs rs stalled i v
       unfolding executed_word pick
       turn_word z true p q c = rw (← c, done_at_lem, p)
       turn_word z false p q c = cc
@@ -89,22 +81,22 @@ module _ (vs rs : List ℕ) (stalled : List Bool) (i : Instruction) where
 
   -- a vertex that is not concerned
   module _ (v : ℕ) (b : Bool) (c : b ≡ concerns i v (at rs v)) where
-    off : not b ≡ true → concerns i v (at rs v) ≡ false
-    off q = rw (← c) (was_off b q)
+    off : b ≡ false → concerns i v (at rs v) ≡ false
+    off q = sym c ∙ q
 
-    rests : not b ≡ true → execute_at vs rs stalled i v ≡ DoneWith (at rs v)
+    rests : b ≡ false → execute_at vs rs stalled i v ≡ DoneWith (at rs v)
     unfolding execute_at
     rests q = unconcerned i v (layer_of vs v) (still vs rs stalled i v) (at rs v) (off q)
 
-    pub rest_refusal : not b ≡ true → execute_refusal vs rs stalled i v ≡ none → execute_refusal vs rs stalled i (v + 1) ≡ none
+    pub rest_refusal : b ≡ false → execute_refusal vs rs stalled i v ≡ none → execute_refusal vs rs stalled i (v + 1) ≡ none
     unfolding execute_refusal
     rest_refusal q p = first_pass v (λ w. refusal_of (execute_at vs rs stalled i w)) p (rw (rests q))
 
-    pub rest_count : not b ≡ true → executed_count vs rs stalled i v ≡ v → executed_count vs rs stalled i (v + 1) ≡ v + 1
+    pub rest_count : b ≡ false → executed_count vs rs stalled i v ≡ v → executed_count vs rs stalled i (v + 1) ≡ v + 1
     unfolding executed_count
     rest_count q p = leading_pass (λ w. is_done (execute_at vs rs stalled i w)) v p (rw (rests q))
 
-    pub rest_word : (z : ℕ) → z ≡ get_or rs v 0 → not b ≡ true → z ≡ executed_word vs rs stalled i v
+    pub rest_word : (z : ℕ) → z ≡ get_or rs v 0 → b ≡ false → z ≡ executed_word vs rs stalled i v
     unfolding executed_word pick
     rest_word z p q = rw (off q, p)
 

@@ -1,5 +1,6 @@
 // Stages 3 to 7 over a graph's vertices.
 #![tactic(auto)]
+
 pub mod execute;
 pub mod peer;
 pub mod tight;
