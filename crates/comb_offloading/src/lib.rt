@@ -1,5 +1,6 @@
 // Stage 2: which units hold, and what they stall.
 #![tactic(auto)]
+
 mod boundary;
 mod defect_match;
 mod edge;

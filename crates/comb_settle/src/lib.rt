@@ -1,5 +1,6 @@
 // Stages 5 and 6 over all vertices, and what these report in stage 7.
 #![tactic(auto)]
+
 mod mark;
 
 ghost use Rattle.std.specs.Prelude.{false, not, ◌&&◌, ◌≡◌, eqb};
