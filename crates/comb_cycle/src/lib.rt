@@ -1,5 +1,6 @@
 // One instruction on lent tables: stages 1 to 8.
 #![tactic(auto)]
+
 pub mod cycle;
 mod growing;
 mod rank;
