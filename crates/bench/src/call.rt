@@ -9,7 +9,7 @@ use rules::finding::{Listed, Sought, WordAnswer};
 
 // Counted to 2^64, and then anew.
 pub(crate) fn add(sum: u64, n: u64) -> u64 {
-    std::num::wrapping_add_u64(sum, n)
+    sum.wrapping_add(n)
 }
 
 fn of_word(answer: WordAnswer) -> u64 {

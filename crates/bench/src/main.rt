@@ -2,13 +2,16 @@
 // findings, growth steps and pairs that gave in all. The session comes after them. bench/run times it: meanwhile no line is made, and nothing is
 // read or written.
 #![tactic(auto)]
+
 mod call;
 
 use crate::call::{add, run_records};
+use batch::read_full;
 use lay::lay;
 use records::value_at;
 use rules::graph::{Graph, Opening, at_most};
 use rules::state::State;
+use std::io::Input;
 
 fn run_all(graph: Graph, first: State, records: &[u8], times: u32) -> u64 {
     let board = lay(graph);
@@ -25,20 +28,19 @@ fn run_all(graph: Graph, first: State, records: &[u8], times: u32) -> u64 {
     sum
 }
 
-fn show(session: &[u8], times: u32) {
+fn show(rt: &impl Print, session: &[u8], times: u32) {
     let decoder = comb::open(session);
     let opening = decoder.opening;
     match opening {
         Opening::Refused(_) => {
-            io::write_all(libc::STDOUT_FILENO, b"bad\n");
+            let _ = println!(rt; "bad");
         }
         Opening::Accepted { units: _, start } => {
             let graph = decoder.graph;
             let state = decoder.state;
             let from = at_most(start, session.len());
             let sum = run_all(graph, state, &session[from..], times);
-            io::print_decimal(libc::STDOUT_FILENO, sum);
-            io::write_all(libc::STDOUT_FILENO, b"\n");
+            let _ = println!(rt; "{sum}");
         }
     }
 }
@@ -48,10 +50,11 @@ fn room() -> [u8; 1048576] {
     [0u8; 1048576]
 }
 
-fn main() {
+fn main(rt: HostRuntime) {
+    let mut reader = rt.reader();
     let mut times = [0u8; 4];
-    io::read_full(libc::STDIN_FILENO, &mut times);
+    read_full(&mut reader, &mut times);
     let mut session = room();
-    let n = io::read_full(libc::STDIN_FILENO, &mut session);
-    show(&session[0..n], value_at(&times, 0));
+    let n = read_full(&mut reader, &mut session);
+    show(&rt, &session[0..n], value_at(&times, 0));
 }

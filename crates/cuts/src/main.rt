@@ -1,32 +1,39 @@
 // Replays each session of standard input in chunks of 1 to 17 bytes, so that records are cut at every place, and writes the listings with a line
 // `=` between them.
 #![tactic(auto)]
+
 use batch::{Next, next_session};
 use rules::graph::{Graph, Opening, at_most};
 use rules::state::State;
 use session::run_chunk;
-use text_out::{gets_on, put, show_end, show_head, show_refusal};
+use std::io::Input;
+use text_out::{gets_on, large_buffer, put, show_end, show_head, show_refusal};
 
 // Each chunk is longer than the one before it, up to 17 bytes, so the records get on.
-fn show_records(graph: Graph, first: State, session: &[u8], start: usize, out: &mut [u8]) {
+fn show_records(
+    rt: &(impl Print + Eprint),
+    graph: Graph,
+    first: State,
+    session: &[u8],
+    start: usize,
+    out: &mut [u8],
+) {
     let mut state = first;
     let mut from = at_most(start, session.len());
     let mut piece: usize = 1;
-    let mut turns = u64::MAX;
-    while 0 < turns {
-        turns -= 1;
+    for _ in 0..u64::MAX {
         let to = from + at_most(piece, session.len() - from);
         let done = run_chunk(graph, state, &session[from..to], out);
         let stop = done.stop;
         state = done.state;
         from += done.used;
-        put(out, done.written);
-        if !gets_on(stop, done.used) {
+        put(rt, out, done.written);
+        if !gets_on(rt, stop, done.used) {
             return;
         }
         if piece == 17 {
             if done.used == 0 {
-                show_end(out, session.len() - from);
+                show_end(rt, out, session.len() - from);
                 return;
             }
         }
@@ -34,34 +41,32 @@ fn show_records(graph: Graph, first: State, session: &[u8], start: usize, out: &
     }
 }
 
-fn show(session: &[u8], out: &mut [u8]) {
+fn show(rt: &(impl Print + Eprint), session: &[u8], out: &mut [u8]) {
     let decoder = comb::open(session);
     let opening = decoder.opening;
     match opening {
         Opening::Refused(why) => {
-            show_refusal(out, why);
+            show_refusal(rt, out, why);
         }
         Opening::Accepted { units, start } => {
             let graph = decoder.graph;
             let state = decoder.state;
-            show_head(out, graph, units);
-            show_records(graph, state, session, start, out);
+            show_head(rt, out, graph, units);
+            show_records(rt, graph, state, session, start, out);
         }
     }
 }
 
-fn show_all(session: &mut [u8], out: &mut [u8]) {
-    let mut turns = u64::MAX;
-    while 0 < turns {
-        let Next::Session(n) = next_session(session) else {
+fn show_all(rt: &(impl Input + Print + Eprint), session: &mut [u8], out: &mut [u8]) {
+    for turn in 0..u64::MAX {
+        let Next::Session(n) = next_session(rt, session) else {
             return;
         };
-        if turns < u64::MAX {
-            io::write_all(libc::STDOUT_FILENO, b"=\n");
+        if 0 < turn {
+            let _ = rt.print("=\n");
         }
         let length = at_most(n, session.len());
-        show(&session[0..length], out);
-        turns -= 1;
+        show(rt, &session[0..length], out);
     }
 }
 
@@ -70,8 +75,8 @@ fn room() -> [u8; 1048576] {
     [0u8; 1048576]
 }
 
-fn main() {
+fn main(rt: HostRuntime) {
     let mut session = room();
-    let mut out = io::large_buffer();
-    show_all(&mut session, &mut out);
+    let mut out = large_buffer();
+    show_all(&rt, &mut session, &mut out);
 }

@@ -1,8 +1,10 @@
 // Opens each image of standard input, and writes a line for it: `DCT`, V, E, the number of units, where its session records start and a
 // checksum of its graph, or `bad` and the refusal's number. Each image comes after its length in four bytes, the low byte first.
 #![tactic(auto)]
+
 use batch::{Next, next_session, put_number};
 use rules::graph::{Graph, Opened, Opening, at_most};
+use std::io::Input;
 
 fn mix(sum: u32, word: u32) -> u32 {
     (((sum as u64) * 1000003 + (word as u64)) % 4294967296) as u32
@@ -29,39 +31,37 @@ fn checksum(graph: Graph, units: u32) -> u32 {
     )
 }
 
-fn show_graph(graph: Graph, units: usize, start: usize) {
-    io::write_all(libc::STDOUT_FILENO, b"DCT");
-    put_number(graph.nv as u64);
-    put_number(graph.ne as u64);
-    put_number(graph.nu as u64);
-    put_number(start as u64);
-    put_number(checksum(graph, (units % 65536) as u32) as u64);
+fn show_graph(rt: &impl Print, graph: Graph, units: usize, start: usize) {
+    let _ = rt.print("DCT");
+    put_number(rt, graph.nv as u64);
+    put_number(rt, graph.ne as u64);
+    put_number(rt, graph.nu as u64);
+    put_number(rt, start as u64);
+    put_number(rt, checksum(graph, (units % 65536) as u32) as u64);
 }
 
-fn show(opened: Opened) {
+fn show(rt: &impl Print, opened: Opened) {
     let opening = opened.opening;
     match opening {
         Opening::Accepted { units, start } => {
             let graph = opened.graph;
-            show_graph(graph, units, start);
+            show_graph(rt, graph, units, start);
         }
         Opening::Refused(why) => {
-            io::write_all(libc::STDOUT_FILENO, b"bad");
-            put_number(listing::refusal_number(why) as u64);
+            let _ = rt.print("bad");
+            put_number(rt, listing::refusal_number(why) as u64);
         }
     }
-    io::write_all(libc::STDOUT_FILENO, b"\n");
+    let _ = rt.print("\n");
 }
 
-fn show_all(buffer: &mut [u8]) {
-    let mut turns = u64::MAX;
-    while 0 < turns {
-        let Next::Session(n) = next_session(buffer) else {
+fn show_all(rt: &(impl Input + Print + Eprint), buffer: &mut [u8]) {
+    for _ in 0..u64::MAX {
+        let Next::Session(n) = next_session(rt, buffer) else {
             return;
         };
         let length = at_most(n, buffer.len());
-        show(image::open(&buffer[0..length]));
-        turns -= 1;
+        show(rt, image::open(&buffer[0..length]));
     }
 }
 
@@ -70,7 +70,7 @@ fn room() -> [u8; 1048576] {
     [0u8; 1048576]
 }
 
-fn main() {
+fn main(rt: HostRuntime) {
     let mut buffer = room();
-    show_all(&mut buffer);
+    show_all(&rt, &mut buffer);
 }

@@ -1,8 +1,11 @@
 // The input buffer.
 ghost use Rattle.std.specs.Prelude.{◌≤◌, ◌-◌, length};
 
+use batch::read_full;
+use std::io::Input;
+
 // Moves what stands from `from` to `to` to the buffer's start, and reads behind it. Returns where that ends.
-pub(crate) fn refill(input: &mut [u8], from: usize, to: usize) -> usize
+pub(crate) fn refill(rt: &impl Input, input: &mut [u8], from: usize, to: usize) -> usize
     requires { (from ≤ to) × (to ≤ length input.old) }
     ensures { result ≤ length input.new }
 {
@@ -12,5 +15,5 @@ pub(crate) fn refill(input: &mut [u8], from: usize, to: usize) -> usize
         input[i] = input[from + i];
         i += 1;
     }
-    left + io::read_full(libc::STDIN_FILENO, &mut input[left..])
+    left + read_full(&mut rt.reader(), &mut input[left..])
 }

@@ -76,12 +76,13 @@ fn show_record(
     }
 }
 
-fn show_state(nv: usize, state: State, out: &mut [u8], at: usize) -> usize {
+fn show_state(rt: &impl Print, nv: usize, state: State, out: &mut [u8], at: usize) -> usize {
     let registers = state.registers;
-    show_registers(out, at, &registers, nv)
+    show_registers(rt, out, at, &registers, nv)
 }
 
 fn show_records(
+    rt: &impl Print,
     graph: Graph,
     first: State,
     session: &[u8],
@@ -93,7 +94,7 @@ fn show_records(
     let mut next = at;
     let mut from = start;
     while from < session.len() {
-        next = ready(out, next);
+        next = ready(rt, out, next);
         if session.len() - from < 5 {
             return listing::record_line(out, next);
         }
@@ -105,13 +106,13 @@ fn show_records(
         from += 5;
         let shown = show_record(graph, state, kind, value, out, next);
         state = shown.state;
-        next = show_state(graph.nv, state, out, shown.at);
+        next = show_state(rt, graph.nv, state, out, shown.at);
     }
     next
 }
 
-pub(crate) fn show_session(session: &[u8], out: &mut [u8], at: usize) -> usize {
-    let at = ready(out, at);
+pub(crate) fn show_session(rt: &impl Print, session: &[u8], out: &mut [u8], at: usize) -> usize {
+    let at = ready(rt, out, at);
     let decoder = comb::open(session);
     let opening = decoder.opening;
     match opening {
@@ -119,7 +120,7 @@ pub(crate) fn show_session(session: &[u8], out: &mut [u8], at: usize) -> usize {
             let graph = decoder.graph;
             let state = decoder.state;
             let at = listing::first_line(out, at, count(graph.nv), count(graph.ne), count(units));
-            show_records(graph, state, session, start, out, at)
+            show_records(rt, graph, state, session, start, out, at)
         }
         Opening::Refused(why) => listing::bad_line(out, at, why),
     }

@@ -55,12 +55,18 @@ fn show_vertex(out: &mut [u8], at: usize, v: usize, vertex: VertexRegisters) -> 
     put_byte(out, at, b'\n')
 }
 
-pub(crate) fn show_registers(out: &mut [u8], at: usize, words: &[u64], n: usize) -> usize {
+pub(crate) fn show_registers(
+    rt: &impl Print,
+    out: &mut [u8],
+    at: usize,
+    words: &[u64],
+    n: usize,
+) -> usize {
     let last = at_most(n, words.len());
     let mut next = at;
     let mut v = 0;
     while v < last {
-        next = ready(out, next);
+        next = ready(rt, out, next);
         next = show_vertex(out, next, v, view(words[v]));
         v += 1;
     }

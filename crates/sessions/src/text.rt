@@ -1,18 +1,18 @@
 // Text in the output buffer. What a buffer has no room for is left out: `ready` makes room for the longest line.
-use libc::STDOUT_FILENO;
+use itoa::Buffer;
 
-pub(crate) fn flush(out: &[u8], at: usize) {
+pub(crate) fn flush(rt: &impl Print, out: &[u8], at: usize) {
     if at <= out.len() {
-        io::write_all(STDOUT_FILENO, &out[0..at]);
+        let _ = rt.write_all(&out[0..at]);
     }
 }
 
 // Where the next line goes. The longest one, a pair list of 1,024 edges, takes 5,122 bytes.
-pub(crate) fn ready(out: &[u8], at: usize) -> usize {
+pub(crate) fn ready(rt: &impl Print, out: &[u8], at: usize) -> usize {
     if at < 60000 {
         return at;
     }
-    flush(out, at);
+    flush(rt, out, at);
     0
 }
 
@@ -36,8 +36,7 @@ fn put_text(out: &mut [u8], at: usize, text: &[u8]) -> usize {
 
 // A space and the number.
 pub(crate) fn put_number(out: &mut [u8], at: usize, n: u64) -> usize {
-    let mut digits = [0u8; 20];
-    let k = io::decimal(n, &mut digits);
+    let mut digits = Buffer::new();
     let at = put_byte(out, at, b' ');
-    put_text(out, at, &digits[..k])
+    put_text(out, at, digits.format(n).as_bytes())
 }

@@ -1,5 +1,6 @@
 // What a replay writes to standard output, and when it has no more to do.
 #![tactic(auto)]
+
 ghost use Rattle.std.specs.Prelude.{◌≡◌, false, ◌<◌, min, length};
 ghost use Rattle.rules.specs.Listing.{line, first_line};
 ghost use Rattle.listing.specs.Heads.{bad_text};
@@ -14,13 +15,20 @@ use rules::refusal::Refusal;
 use session::{Last, end_of_input};
 
 // Writes the first n bytes, and answers whether all of them were written.
-pub fn put(text: &[u8], n: usize) -> bool
+pub fn put(rt: &impl Print, text: &[u8], n: usize) -> bool
     ensures { length text.now < n → result ≡ false }
 {
     if text.len() < n {
         return false;
     }
-    io::write_all(libc::STDOUT_FILENO, &text[0..n])
+    rt.write_all(&text[0..n]).is_ok()
+}
+
+// An output buffer. A replay's input buffer is as long.
+pub fn large_buffer() -> [u8; 65536]
+    ensures { 65_536 ≡ length result }
+{
+    [0u8; 65536]
 }
 
 // A number of vertices, edges or units: an image has at most 1,024 of each.
@@ -30,43 +38,40 @@ pub fn count(n: usize) -> u32
     if n < 1_024 { n as u32 } else { 1_024 }
 }
 
-pub fn show_refusal(out: &mut [u8], why: Refusal) -> bool
+pub fn show_refusal(rt: &impl Print, out: &mut [u8], why: Refusal) -> bool
     ensures { out.new ≡ line_in longest 0 (line (bad_text why)) out.old }
 {
     let n = bad_line(out, 0, why);
-    put(out, n)
+    put(rt, out, n)
 }
 
-pub fn show_head(out: &mut [u8], graph: Graph, units: usize) -> bool
+pub fn show_head(rt: &impl Print, out: &mut [u8], graph: Graph, units: usize) -> bool
     ensures { out.new ≡ line_in longest 0 (first_line (min graph.nv 1_024) (min graph.ne 1_024) (min units 1_024)) out.old }
 {
     let n = first_line(out, 0, count(graph.nv), count(graph.ne), count(units));
-    put(out, n)
+    put(rt, out, n)
 }
 
 // Lines that find no room are told of, not left out in silence.
-fn no_room() -> bool
+fn no_room(rt: &impl Eprint) -> bool
     ensures { result ≡ false }
 {
-    io::write_all(
-        libc::STDERR_FILENO,
-        b"the output buffer has no room for a line\n",
-    );
+    let _ = eprintln!(rt; "the output buffer has no room for a line");
     false
 }
 
 // The last line, where so many bytes are left.
-pub fn show_end(out: &mut [u8], left: usize) -> bool
+pub fn show_end(rt: &(impl Print + Eprint), out: &mut [u8], left: usize) -> bool
     ensures { out.new ≡ last_in left out.old }
 {
     match end_of_input(left, out) {
-        Last::Wrote(n) => put(out, n),
-        Last::WantsRoom => no_room(),
+        Last::Wrote(n) => put(rt, out, n),
+        Last::WantsRoom => no_room(rt),
     }
 }
 
 // Whether a chunk that used so many bytes is followed by another. Where a line finds no room in the whole buffer, no chunk gets on.
-pub fn gets_on(stop: Stop, used: usize) -> bool
+pub fn gets_on(rt: &impl Eprint, stop: Stop, used: usize) -> bool
     ensures { result ≡ gets_on stop used }
 {
     match stop {
@@ -74,7 +79,7 @@ pub fn gets_on(stop: Stop, used: usize) -> bool
         Stop::WantsBytes => true,
         Stop::WantsRoom => {
             if used == 0 {
-                return no_room();
+                return no_room(rt);
             }
             true
         }

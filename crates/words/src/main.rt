@@ -4,133 +4,151 @@
 //     l 2         the word that grows by this length
 // tools/expect_words.py makes the lines, and what is to be written for each, from document 01 and from what the Rust packed.
 #![tactic(auto)]
+
 ghost use Rattle.std.specs.Prelude.{◌≤◌};
 
+use batch::read_full;
 use rules::index::{LayerId, NodeIndex, VertexIndex};
 use rules::instruction::{CompactGrowState, Instruction, Packed, Unpacked};
 use rules::refusal::Refusal;
+use std::io::Input;
 
-fn put(text: &[u8]) {
-    io::write_all(libc::STDOUT_FILENO, text);
+fn put(rt: &impl Print, text: &str) {
+    let _ = rt.print(text);
 }
 
-fn put_number(n: u32) {
-    batch::put_number(n as u64);
+fn put_number(rt: &impl Print, n: u32) {
+    batch::put_number(rt, n as u64);
 }
 
 // The two refusals that words meet.
-fn put_refusal(refusal: Refusal) {
+fn put_refusal(rt: &impl Print, refusal: Refusal) {
     match refusal {
-        Refusal::NotCarried => put(b" r 12"),
-        Refusal::OutOfBounds => put(b" r 13"),
-        _ => put(b" r ?"),
+        Refusal::NotCarried => put(rt, " r 12"),
+        Refusal::OutOfBounds => put(rt, " r 13"),
+        _ => put(rt, " r ?"),
     }
 }
 
-fn put_packed(packed: Packed) {
+fn put_packed(rt: &impl Print, packed: Packed) {
     match packed {
-        Packed::Word(word) => put_number(word),
-        Packed::Refused(refusal) => put_refusal(refusal),
+        Packed::Word(word) => put_number(rt, word),
+        Packed::Refused(refusal) => put_refusal(rt, refusal),
     }
 }
 
-fn put_speed(speed: CompactGrowState) {
+fn put_speed(rt: &impl Print, speed: CompactGrowState) {
     match speed {
-        CompactGrowState::Stay => put(b" Stay"),
-        CompactGrowState::Grow => put(b" Grow"),
-        CompactGrowState::Shrink => put(b" Shrink"),
+        CompactGrowState::Stay => put(rt, " Stay"),
+        CompactGrowState::Grow => put(rt, " Grow"),
+        CompactGrowState::Shrink => put(rt, " Shrink"),
     }
 }
 
-fn put_instruction(instruction: Instruction) {
+fn put_instruction(rt: &impl Print, instruction: Instruction) {
     match instruction {
         Instruction::SetSpeed { node, speed } => {
-            put(b" SetSpeed");
-            put_number(node.0 as u32);
-            put_speed(speed);
+            put(rt, " SetSpeed");
+            put_number(rt, node.0 as u32);
+            put_speed(rt, speed);
         }
         Instruction::SetBlossom { node, blossom } => {
-            put(b" SetBlossom");
-            put_number(node.0 as u32);
-            put_number(blossom.0 as u32);
+            put(rt, " SetBlossom");
+            put_number(rt, node.0 as u32);
+            put_number(rt, blossom.0 as u32);
         }
         Instruction::AddDefectVertex { vertex, node } => {
-            put(b" AddDefectVertex");
-            put_number(vertex.0 as u32);
-            put_number(node.0 as u32);
+            put(rt, " AddDefectVertex");
+            put_number(rt, vertex.0 as u32);
+            put_number(rt, node.0 as u32);
         }
-        Instruction::FindObstacle => put(b" FindObstacle"),
+        Instruction::FindObstacle => put(rt, " FindObstacle"),
         Instruction::Grow { length } => {
-            put(b" Grow");
-            put_number(length);
+            put(rt, " Grow");
+            put_number(rt, length);
         }
         Instruction::LoadDefectsExternal { time } => {
-            put(b" LoadDefectsExternal");
-            put_number(time.0 as u32);
+            put(rt, " LoadDefectsExternal");
+            put_number(rt, time.0 as u32);
         }
     }
 }
 
-fn show_word(word: u32) {
-    put(b"word");
-    put_number(word);
+fn show_word(rt: &impl Print, word: u32) {
+    put(rt, "word");
+    put_number(rt, word);
     match instruction::unpack(word) {
         Unpacked::Says(instruction) => {
-            put_instruction(instruction);
-            put_packed(instruction::pack(instruction));
+            put_instruction(rt, instruction);
+            put_packed(rt, instruction::pack(instruction));
         }
         Unpacked::Reset => {
-            put(b" Reset");
-            put_packed(instruction::pack_reset());
+            put(rt, " Reset");
+            put_packed(rt, instruction::pack_reset());
         }
-        Unpacked::Refused(refusal) => put_refusal(refusal),
+        Unpacked::Refused(refusal) => put_refusal(rt, refusal),
     }
-    put(b"\n");
+    put(rt, "\n");
 }
 
-fn show_pack(instruction: Instruction) {
-    put(b"pack");
-    put_instruction(instruction);
-    put_packed(instruction::pack(instruction));
-    put(b"\n");
+fn show_pack(rt: &impl Print, instruction: Instruction) {
+    put(rt, "pack");
+    put_instruction(rt, instruction);
+    put_packed(rt, instruction::pack(instruction));
+    put(rt, "\n");
 }
 
-fn show_index(n: u16) {
+fn show_index(rt: &impl Print, n: u16) {
     let node = NodeIndex(n);
     let zero = NodeIndex(0);
-    show_pack(Instruction::SetSpeed {
-        node,
-        speed: CompactGrowState::Grow,
-    });
-    show_pack(Instruction::SetBlossom {
-        node,
-        blossom: zero,
-    });
-    show_pack(Instruction::SetBlossom {
-        node: zero,
-        blossom: node,
-    });
-    show_pack(Instruction::AddDefectVertex {
-        vertex: VertexIndex(n),
-        node: zero,
-    });
-    show_pack(Instruction::AddDefectVertex {
-        vertex: VertexIndex(0),
-        node,
-    });
-    show_pack(Instruction::LoadDefectsExternal { time: LayerId(n) });
+    show_pack(
+        rt,
+        Instruction::SetSpeed {
+            node,
+            speed: CompactGrowState::Grow,
+        },
+    );
+    show_pack(
+        rt,
+        Instruction::SetBlossom {
+            node,
+            blossom: zero,
+        },
+    );
+    show_pack(
+        rt,
+        Instruction::SetBlossom {
+            node: zero,
+            blossom: node,
+        },
+    );
+    show_pack(
+        rt,
+        Instruction::AddDefectVertex {
+            vertex: VertexIndex(n),
+            node: zero,
+        },
+    );
+    show_pack(
+        rt,
+        Instruction::AddDefectVertex {
+            vertex: VertexIndex(0),
+            node,
+        },
+    );
+    show_pack(rt, Instruction::LoadDefectsExternal { time: LayerId(n) });
 }
 
-fn show(letter: u8, number: u32) {
+fn show(rt: &impl Print, letter: u8, number: u32) {
     match letter {
-        b'w' => show_word(number),
+        b'w' => show_word(rt, number),
         b'i' => {
             if number < 65536 {
-                show_index(number as u16);
+                show_index(rt, number as u16);
             }
         }
-        b'l' => show_pack(Instruction::Grow { length: number }),
-        _ => put(b"?\n"),
+        b'l' => show_pack(rt, Instruction::Grow { length: number }),
+        _ => put(rt, "?\n"),
     }
 }
 
@@ -169,17 +187,22 @@ fn line_at(s: &[u8], at: usize) -> Line
     Line { number, next }
 }
 
-fn show_lines(s: &[u8]) {
+fn show_lines(rt: &impl Print, s: &[u8]) {
     let mut at = 0;
     while at < s.len() {
         let line = line_at(s, at + 1);
-        show(s[at], line.number);
+        show(rt, s[at], line.number);
         at = line.next;
     }
 }
 
-fn main() {
-    let mut buffer = io::buffer();
-    let n = io::read_full(libc::STDIN_FILENO, &mut buffer);
-    show_lines(&buffer[..n]);
+// A buffer whose bytes no proof looks into.
+fn room() -> [u8; 4096] {
+    [0u8; 4096]
+}
+
+fn main(rt: HostRuntime) {
+    let mut buffer = room();
+    let n = read_full(&mut rt.reader(), &mut buffer);
+    show_lines(&rt, &buffer[..n]);
 }
