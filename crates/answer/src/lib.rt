@@ -1,5 +1,6 @@
 // A session record answered on lent tables: its call is made, and no text.
 #![tactic(auto)]
+
 ghost use Rattle.std.specs.Prelude.{◌≡◌};
 ghost use Rattle.board.specs.Board.{graph_on, Laid};
 ghost use Rattle.comb_cycle.specs.Cycled.{state_of};

@@ -1,5 +1,6 @@
 // The decoder: a graph, and a state by value that each call takes and gives back. Every value of either is answered.
 #![tactic(auto)]
+
 ghost use Rattle.std.specs.Prelude.{◌≡◌, length};
 ghost use Rattle.rules.specs.Image as Image;
 ghost use Rattle.rules.specs.Instruct as Instruct;

@@ -1,6 +1,7 @@
 // The work on a chunk of session records. A program reads, runs chunks of what it has read, and writes their lines; proofs/Cuts.antt proves that
 // however its input is cut, it writes the session's listing.
 #![tactic(auto)]
+
 ghost use Rattle.std.specs.Prelude.{◌≡◌, ◌≤◌, length};
 ghost use Rattle.board.specs.Board.{graph_on, Laid};
 ghost use Rattle.laws.specs.Placed.{placed};

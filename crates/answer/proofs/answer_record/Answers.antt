@@ -1,0 +1,19 @@
+-- Each kind makes its call of `record_call`, and another kind none.
+use Rattle.answer.proofs.ByKind.{kinds}
+use Rattle.std.proofs.Common.{rules}
+use Rattle.answer.proofs.answer_record.Goals as goal
+
+pub returns-in-0 : goal.returns-in-0
+returns-in-0 c = search (rules, kinds)
+
+pub returns-in-1 : goal.returns-in-1
+returns-in-1 c = search (rules, kinds)
+
+pub returns-in-2 : goal.returns-in-2
+returns-in-2 c = search (rules, kinds)
+
+pub returns-in-3 : goal.returns-in-3
+returns-in-3 c = search (rules, kinds)
+
+pub returns-in_default : goal.returns-in_default
+returns-in_default c = search (rules, kinds)
