@@ -2,5 +2,5 @@
 use Rattle.std.proofs.Common.{◌≡◌, length}
 use Rattle.sessions.proofs.answers.put_edges.Given as goal
 
-abbrev pub invariant-loop : goal.invariant-loop
-invariant-loop l = length l.out ≡ length l.initial.out
+abbrev pub invariant-loop-edge : goal.invariant-loop-edge
+invariant-loop-edge l = length l.out ≡ length l.initial.out

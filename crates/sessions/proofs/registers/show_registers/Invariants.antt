@@ -2,5 +2,5 @@
 use Rattle.std.proofs.Common.{◌≡◌, ◌≤◌, length}
 use Rattle.sessions.proofs.registers.show_registers.Given as goal
 
-abbrev pub invariant-loop : goal.invariant-loop
-invariant-loop g l = (l.last ≤ length l.words) × (length l.out ≡ length l.initial.out)
+abbrev pub invariant-loop-v : goal.invariant-loop-v
+invariant-loop-v g l = (l.last ≤ length l.words) × (length l.out ≡ length l.initial.out)

@@ -2,5 +2,5 @@
 use Rattle.std.proofs.Common.{◌≡◌, length}
 use Rattle.sessions.proofs.text.put_text.Given as goal
 
-abbrev pub invariant-loop : goal.invariant-loop
-invariant-loop l = length l.out ≡ length l.initial.out
+abbrev pub invariant-loop-byte : goal.invariant-loop-byte
+invariant-loop-byte l = length l.out ≡ length l.initial.out
