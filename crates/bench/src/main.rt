@@ -19,11 +19,9 @@ fn run_all(graph: Graph, first: State, records: &[u8], times: u32) -> u64 {
     let mut weights = first.weights;
     let mut stalled = first.stalled;
     let mut sum = 0;
-    let mut left = times;
-    while 0 < left {
+    for _ in 0..times {
         let more = run_records(&board, &mut weights, &mut registers, &mut stalled, records);
         sum = add(sum, more);
-        left -= 1;
     }
     sum
 }

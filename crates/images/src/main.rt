@@ -12,10 +12,8 @@ fn mix(sum: u32, word: u32) -> u32 {
 
 fn mix_all(sum: u32, words: &[u32]) -> u32 {
     let mut total = sum;
-    let mut i = 0;
-    while i < words.len() {
-        total = mix(total, words[i]);
-        i += 1;
+    for word in words {
+        total = mix(total, *word);
     }
     total
 }

@@ -39,10 +39,8 @@ fn put_edge(out: &mut [u8], at: usize, edge: u16) -> usize {
 fn put_edges(out: &mut [u8], at: usize, edges: &[u16], n: usize) -> usize {
     let last = at_most(n, edges.len());
     let mut next = at;
-    let mut i = 0;
-    while i < last {
-        next = put_edge(out, next, edges[i]);
-        i += 1;
+    for edge in &edges[0..last] {
+        next = put_edge(out, next, *edge);
     }
     next
 }

@@ -64,11 +64,9 @@ pub(crate) fn show_registers(
 ) -> usize {
     let last = at_most(n, words.len());
     let mut next = at;
-    let mut v = 0;
-    while v < last {
+    for v in 0..last {
         next = ready(rt, out, next);
         next = show_vertex(out, next, v, view(words[v]));
-        v += 1;
     }
     next
 }

@@ -26,10 +26,8 @@ pub(crate) fn put_byte(out: &mut [u8], at: usize, byte: u8) -> usize {
 
 fn put_text(out: &mut [u8], at: usize, text: &[u8]) -> usize {
     let mut next = at;
-    let mut i = 0;
-    while i < text.len() {
-        next = put_byte(out, next, text[i]);
-        i += 1;
+    for byte in text {
+        next = put_byte(out, next, *byte);
     }
     next
 }
