@@ -1,5 +1,5 @@
 -- What stands on a board, each part as a list of its own, so that the definitions and laws over a graph's tables hold of it as they are.
-use Rattle.std.specs.Prelude.{ℕ, zero, suc, ◌+◌, ◌*◌, ◌≤◌, ◌<◌, min, ◌≡◌, refl, List, [], ◌∷◌, length, get_or}
+use Rattle.std.specs.Prelude.{ℕ, zero, suc, ◌+◌, ◌≤◌, ◌<◌, min, ◌≡◌, refl, List, [], ◌∷◌, length, get_or}
 use Rattle.std.proofs.Common.{sym, arith}
 use Rattle.laws.specs.Table.{table, length_table, get_or_table}
 use Rattle.rules.specs.Fetch.{fetched}

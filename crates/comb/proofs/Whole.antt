@@ -5,7 +5,7 @@ use mathlib.Core.Bool.{Bool, false}
 use mathlib.Core.List.{List}
 use lib.ListN.{replicate}
 use Rattle.rules.specs.Graph.{in_use}
-use Rattle.rules.specs.State.{with_maximum, fresh_registers, fresh_state, first_state, reset}
+use Rattle.rules.specs.State.{with_maximum, fresh_registers, fresh_state, first_state}
 use Rattle.rules.specs.Image.{opened}
 use Rattle.rules.specs.Instruct.{instruct, word_run}
 use Rattle.rules.specs.Pairs.{pairs, listed, buffered}
@@ -13,7 +13,6 @@ use Rattle.rules.specs.Search.{search_on, search_to}
 use Rattle.rules.specs.declared.graph.Graph.{Graph}
 use Rattle.rules.specs.declared.graph.Opened.{Opened}
 use Rattle.rules.specs.declared.state.State.{State}
-use Rattle.rules.specs.declared.state.Searched.{Searched}
 use Rattle.rules.specs.declared.finding.Answer.{Answer}
 use Rattle.rules.specs.declared.finding.WordAnswer.{WordAnswer}
 use Rattle.rules.specs.declared.finding.Listed.{Listed}

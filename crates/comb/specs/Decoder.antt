@@ -1,7 +1,5 @@
 -- A decoder that an image opens: its graph, and the first state on it.
-use Rattle.std.specs.Prelude.{List}
 use Rattle.rules.specs.State.{first_state}
-use Rattle.rules.specs.Image.{opened}
 use Rattle.rules.specs.declared.graph.Opened.{Opened}
 use Rattle.comb.specs.declared.Decoder.{Decoder}
 

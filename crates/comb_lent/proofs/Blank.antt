@@ -1,6 +1,6 @@
 -- Fresh registers, over variables: a vertex with a layer starts virtual, another as its mark says.
-use Prim.Native.Nat.{ℕ, ◌≤◌, min}
-use mathlib.Core.Path.{◌≡◌, refl}
+use Prim.Native.Nat.{ℕ, ◌≤◌}
+use mathlib.Core.Path.{◌≡◌}
 use mathlib.Core.Bool.{Bool, true, false}
 use mathlib.Core.List.{List}
 use native.Mathlib.Omega.{arith}

@@ -1,8 +1,8 @@
 -- How each call on lent tables ends, over variables.
 use Prim.Native.Nat.{ℕ, suc, min, ◌≤◌, ◌<◌}
-use mathlib.Core.Path.{◌≡◌, refl, sym, ap, ◌∙◌}
-use mathlib.Core.Bool.{Bool, true, false, not}
-use mathlib.Core.List.{List, []}
+use mathlib.Core.Path.{◌≡◌, sym, ap, ◌∙◌}
+use mathlib.Core.Bool.{Bool, true, false}
+use mathlib.Core.List.{List}
 use native.Mathlib.Omega.{arith}
 use borrow.Author.Tests.{lt-ltb, le-ltb}
 use lib.ListN.{replicate}
@@ -10,7 +10,7 @@ use Rattle.laws.specs.Choice.{pick}
 use Rattle.rules.specs.Graph.{in_use}
 use Rattle.rules.specs.State.{fresh_registers, fresh_state, reset}
 use Rattle.rules.specs.Words.{in_bounds, unpacked}
-use Rattle.rules.specs.Instruct.{step, barred, concluded, settled, instruct, word_answer, word_cycle, carried_out, word_run}
+use Rattle.rules.specs.Instruct.{barred, instruct, word_answer, word_cycle, carried_out, word_run}
 use Rattle.rules.specs.Search.{search, search_on, search_to}
 use Rattle.rules.specs.declared.graph.Graph.{Graph}
 use Rattle.rules.specs.declared.state.Cycle.{Cycle}
@@ -26,7 +26,7 @@ use Rattle.rules.specs.declared.instruction.Unpacked.{Unpacked}
 use Rattle.rules.specs.declared.instruction.Unpacked.TheVariants as U
 use Rattle.rules.specs.declared.refusal.Refusal.{Refusal}
 use Rattle.rules.specs.declared.refusal.Refusal.TheVariants.{OutOfBounds}
-use Rattle.comb_cycle.specs.Cycled.{Cycled, state_of, cycled_as, of_cycle, cycled}
+use Rattle.comb_cycle.specs.Cycled.{state_of, cycled_as, cycled}
 use Rattle.board.specs.Board.{vertices_on, defaults_on, nv_on, graph_on, Laid}
 use Rattle.comb_search.specs.Seek.{seek, searched_as}
 use Rattle.comb_lent.specs.Whole.{all_in_use}

@@ -1,6 +1,6 @@
 -- What is in use of a graph is all in use, so every call answers on it as on the graph itself.
-use Rattle.std.specs.Prelude.{ℕ, zero, suc, ◌+◌, ◌≤◌, ◌<◌, min, ◌≡◌, refl, List, [], ◌∷◌}
-use Rattle.std.proofs.Common.{sym, ap, ◌∙◌, arith}
+use Rattle.std.specs.Prelude.{ℕ, ◌≤◌, min, ◌≡◌, refl, List}
+use Rattle.std.proofs.Common.{arith}
 use Rattle.laws.specs.Leading.{leading, leading_le, leading_all, leading_each}
 use Rattle.rules.specs.Graph.{fits, edges_in_use, in_use}
 use Rattle.rules.specs.State.{with_maximum, fresh_state, reset}

@@ -1,16 +1,15 @@
 -- The search's loop, over variables. What is told of the search from here on is what is told of all of it; each way out tells it, and a step
 -- keeps it.
-use Prim.Native.Nat.{ℕ, zero, suc, ◌+◌, ◌-◌, ◌<◌, ◌≤◌, min}
+use Prim.Native.Nat.{ℕ, zero, suc, ◌+◌, ◌-◌, ◌≤◌, min}
 use mathlib.Core.Path.{◌≡◌, refl, sym, ap, ◌∙◌, subst}
-use mathlib.Core.Bool.{Bool, true, false}
+use mathlib.Core.Bool.{Bool}
 use mathlib.Core.List.{List, []}
 use native.Mathlib.Omega.{arith}
-use lib.Dec.{eqb, eqb-suc-zero}
+use lib.Dec.{eqb-suc-zero}
 use Rattle.laws.specs.Choice.{pick}
 use Rattle.rules.specs.Instruct.{step}
-use Rattle.rules.specs.Search.{Walk, Ended, ends, ordered, next, grow_by, after_grow, after_finding, walked, told}
+use Rattle.rules.specs.Search.{Walk, Ended, ends, next, grow_by, after_grow, after_finding, walked, told}
 use Rattle.rules.specs.declared.graph.Graph.{Graph}
-use Rattle.rules.specs.declared.state.State.{State}
 use Rattle.rules.specs.declared.state.Cycle.{Cycle}
 use Rattle.rules.specs.declared.state.Searched.{Searched}
 use Rattle.rules.specs.declared.finding.Length.TheVariants.{NoLimit, Ahead, Behind}
@@ -18,7 +17,6 @@ use Rattle.rules.specs.declared.finding.Finding.{Finding}
 use Rattle.rules.specs.declared.finding.Finding.TheVariants.{GrowLength, Conflict}
 use Rattle.rules.specs.declared.finding.Answer.{Answer}
 use Rattle.rules.specs.declared.finding.Answer.TheVariants as A
-use Rattle.rules.specs.declared.finding.Sought.{Sought}
 use Rattle.rules.specs.declared.finding.Sought.TheVariants as S
 use Rattle.rules.specs.declared.finding.Tally.{Tally}
 use Rattle.rules.specs.declared.instruction.Instruction.TheVariants.{FindObstacle, Grow as GrowBy}

@@ -9,15 +9,13 @@ use Rattle.rules.specs.declared.finding.Finding.{Finding}
 use Rattle.rules.specs.declared.finding.Answer.{Answer}
 use Rattle.rules.specs.declared.finding.Answer.TheVariants as A
 use Rattle.rules.specs.declared.instruction.Instruction.TheVariants.{FindObstacle, Grow as GrowBy}
-use Rattle.rules.specs.declared.refusal.Refusal.{Refusal}
-use Rattle.rules.specs.declared.refusal.Refusal.TheVariants.{NegativeLength}
 use Rattle.comb_cycle.specs.Cycled.{Cycled, cycled_as, cycled}
 use Rattle.comb_search.specs.Next.{next_of}
 use Rattle.comb_search.specs.Turn.{Turned, turned_as, grew_by, ended_by, after_next, after_answer, turned}
 use Rattle.comb_search.specs.declared.turn.Next.{Next}
 use Rattle.comb_search.specs.declared.turn.Next.TheVariants.{Stop, Negative, Grow}
 use Rattle.comb_search.specs.declared.turn.Turn.{Turn}
-use Rattle.comb_search.specs.declared.turn.Turn.TheVariants.{Found, Stopped, Grew}
+use Rattle.comb_search.specs.declared.turn.Turn.TheVariants.{Grew}
 
 module _ (g : Graph) (ws : List ℕ) (left : ℕ) (c : Cycled) where
   refused_stops : (a : Answer) → ((f : Finding) → a ≡ A.Found f → ⊥) → turned_as c.registers c.stalled (grew_by 0 a) ≡ after_answer g ws left c a

@@ -1,5 +1,5 @@
 -- What a search does after a finding, with so much of the maximum left.
-use Rattle.std.specs.Prelude.{ℕ, zero, suc, min, List, eqb}
+use Rattle.std.specs.Prelude.{ℕ, min, eqb}
 use Rattle.laws.specs.Choice.{pick}
 use Rattle.rules.specs.Search.{ordered}
 use Rattle.rules.specs.declared.finding.Finding.{Finding}

@@ -1,10 +1,9 @@
 -- The search as the code has it: it keeps no trail, and what is told of a search does not need one.
-use Prim.Native.Nat.{ℕ, zero, suc, ◌+◌, ◌-◌, ◌<◌, ◌≤◌, min}
-use Rattle.std.specs.Prelude.{◌≡◌, Bool, List, [], ◌∷◌}
+use Prim.Native.Nat.{ℕ, zero, suc, ◌+◌, ◌-◌, min}
+use Rattle.std.specs.Prelude.{◌≡◌, Bool, List, []}
 use Rattle.std.proofs.Math.Path.{refl}
-use Rattle.std.proofs.Common.{sym, ap, ◌∙◌}
 use Rattle.rules.specs.Instruct.{step}
-use Rattle.rules.specs.Search.{GrowthStep, Walk, Ended, ends, ordered, Turned, stops, goes, at_state, grew, after_grow, next, grow_by, after_finding, turn, walked, told}
+use Rattle.rules.specs.Search.{GrowthStep, Walk, Turned, grew, after_grow, next, grow_by, after_finding, turn, walked, told}
 use Rattle.rules.specs.declared.graph.Graph.{Graph}
 use Rattle.rules.specs.declared.state.State.{State}
 use Rattle.rules.specs.declared.state.Searched.{Searched}

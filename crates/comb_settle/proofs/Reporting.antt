@@ -18,7 +18,7 @@ use Rattle.rules.specs.Reduce.{least, reduce, vertex_finding}
 use Rattle.rules.specs.declared.finding.Finding.{Finding}
 use Rattle.rules.specs.declared.finding.Finding.TheVariants.{GrowLength}
 use Rattle.rules.specs.declared.finding.Length.{Length}
-use Rattle.rules.specs.declared.finding.Length.TheVariants.{NoLimit, Ahead}
+use Rattle.rules.specs.declared.finding.Length.TheVariants.{Ahead}
 use Rattle.rules.specs.declared.registers.VertexRegisters.{VertexRegisters}
 use Rattle.interface.proofs.Join.{reduce_unit_right}
 use Rattle.comb_settle.specs.Carried.{length_in}

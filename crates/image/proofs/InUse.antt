@@ -7,7 +7,7 @@ use mathlib.Core.Option.{none}
 use native.Mathlib.Omega.{arith}
 use lib.ListN.{length, get_or, replicate, length-append, length-replicate}
 use borrow.Author.Tests.{lt-ltb}
-use Rattle.laws.specs.Choice.{◌and◌, ◌or◌, pick}
+use Rattle.laws.specs.Choice.{◌and◌, pick}
 use Rattle.laws.specs.Fold.{up_to, count_to}
 use Rattle.laws.specs.Leading.{leading_all}
 use Rattle.laws.specs.Listed.{indices}

@@ -1,7 +1,7 @@
 -- Folds over the indices 0 .. n - 1: `up_to f a n` is f (n - 1) (.. (f 1 (f 0 a))), what a loop over 0..n holds after its turns.
 use Prim.Native.Nat.{ℕ, zero, suc, ◌+◌, ◌≤◌, ◌<◌}
-use Rattle.std.specs.Prelude.{◌≡◌, refl, Bool, true, false}
-use Rattle.std.proofs.Common.{sym, ap, eq-or-lt_of_le, le_of_suc-le-suc, not-suc-le-zero, arith}
+use Rattle.std.specs.Prelude.{◌≡◌, Bool, true, false}
+use Rattle.std.proofs.Common.{sym, eq-or-lt_of_le, le_of_suc-le-suc, not-suc-le-zero, arith}
 use Rattle.std.proofs.Math.Path.{subst}
 use Rattle.std.proofs.Math.Logic.{⊎_elim}
 use Rattle.laws.specs.Choice.{◌and◌, ◌or◌}

@@ -1,7 +1,7 @@
 -- The indices below n that pass a test, in order, and a list that stands at the start of an array.
 --     indices p n      those indices
 --     slots m xs       an array of m: xs from its start, and 0 after it
-use Rattle.std.specs.Prelude.{ℕ, zero, suc, Bool, true, false, List, [], ◌∷◌, ◌++◌, get_or}
+use Rattle.std.specs.Prelude.{ℕ, zero, suc, Bool, List, [], ◌∷◌, ◌++◌, get_or}
 use Rattle.laws.specs.Choice.{pick}
 use Rattle.laws.specs.Table.{table}
 

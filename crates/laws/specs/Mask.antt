@@ -1,7 +1,7 @@
 -- A mask with a bit for each place: bit k of `mask_of n f` is set where f k holds, for k below n. Its ones are the places counted.
 use Rattle.std.specs.Prelude.{ℕ, zero, suc, ◌+◌, ◌*◌, ◌^◌, ◌≤◌, ◌<◌, ◌≡◌, Bool, true, false}
 use Rattle.std.proofs.Math.Path.{refl}
-use Rattle.std.proofs.Common.{ap, ap₂, ◌∙◌, pow-suc, add_comm, add-one, arith}
+use Rattle.std.proofs.Common.{ap₂, ◌∙◌, pow-suc, add_comm, add-one, arith}
 use Rattle.std.specs.Int.Count.{ones}
 use Rattle.std.proofs.lemmas.Nat.{ones_cat}
 use Rattle.laws.specs.Fold.{up_to, bit, count_to}

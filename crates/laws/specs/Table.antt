@@ -2,7 +2,7 @@
 --     table n f        f 0, f 1, .. f (n - 1)
 --     paint n f xs     xs with its entries 0 .. n - 1 replaced by f 0, f 1, ..; what lies beyond n stays
 -- Each reads by its own index, so that a table of n entries is computed in n steps.
-use Prim.Native.Nat.{ℕ, zero, suc, pred, ◌+◌, ◌≤◌, ◌<◌}
+use Prim.Native.Nat.{ℕ, zero, suc, ◌+◌, ◌≤◌, ◌<◌}
 use Rattle.std.specs.Prelude.{◌≡◌, length, get_or}
 use Rattle.std.proofs.Math.Path.{refl, ap, subst}
 use Rattle.std.proofs.Common.{sym, ◌∙◌, add-zero, zero-add, add-suc, suc-add, le_of_suc-le-suc, not-suc-le-zero, arith}

@@ -13,7 +13,6 @@ use Rattle.rules.specs.Graph.{in_use, left_of, right_of}
 use Rattle.rules.specs.Registers.{view, speed_of, at, same_node}
 use Rattle.rules.specs.Execute.{execute, execute_at, still, waits, done_or, refusal_of, moved}
 use Rattle.rules.specs.Respond.{remaining}
-use Rattle.rules.specs.Reduce.{finding}
 use Rattle.rules.specs.Instruct.{weights_fetched, vertices_stalled}
 use Rattle.rules.specs.State.{with_maximum}
 use Rattle.rules.specs.Run as Run

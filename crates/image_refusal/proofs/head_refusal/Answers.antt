@@ -8,14 +8,14 @@ use Rattle.image_refusal.proofs.head_refusal.Goals as goal
 pub returns : goal.returns
 unfolding head_refusal
 returns c = simp (
-      c.refuse_if-5.ensures,
-      c.refuse_if-4.ensures,
-      c.refuse_if-3.ensures,
-      c.refuse_if-2.ensures,
-      c.refuse_if.ensures,
-      c.read_header-header.ensures,
-      test_first,
-      test_next,
-      or_else_assoc,
-      or_is,
-    )
+  c.refuse_if-5.ensures,
+  c.refuse_if-4.ensures,
+  c.refuse_if-3.ensures,
+  c.refuse_if-2.ensures,
+  c.refuse_if.ensures,
+  c.read_header-header.ensures,
+  test_first,
+  test_next,
+  or_else_assoc,
+  or_is,
+)

@@ -8,13 +8,13 @@ use Rattle.image_refusal.proofs.record_refusal.Goals as goal
 pub returns : goal.returns
 unfolding record_refusal
 returns c = simp (
-      c.refuse_if-3.ensures,
-      c.refuse_if-2.ensures,
-      c.refuse_if.ensures,
-      c.is_end.ensures,
-      test_first,
-      test_next,
-      or_else_assoc,
-      and_is,
-      or_is,
-    )
+  c.refuse_if-3.ensures,
+  c.refuse_if-2.ensures,
+  c.refuse_if.ensures,
+  c.is_end.ensures,
+  test_first,
+  test_next,
+  or_else_assoc,
+  and_is,
+  or_is,
+)

@@ -8,11 +8,11 @@ use Rattle.image_refusal.proofs.unit_refusal.Goals as goal
 pub returns : goal.returns
 unfolding unit_refusal is_end is_end_of misnames
 returns c = simp (
-      c.refuse_if.ensures,
-      c.misnames.ensures,
-      c.edge_record-edge.ensures,
-      c.unit_record-unit.ensures,
-      c.read_header-edges.ensures,
-      test_first,
-      or_is,
-    )
+  c.refuse_if.ensures,
+  c.misnames.ensures,
+  c.edge_record-edge.ensures,
+  c.unit_record-unit.ensures,
+  c.read_header-edges.ensures,
+  test_first,
+  or_is,
+)
