@@ -1,0 +1,16 @@
+-- At the batch's end nothing is told; a session was read to its length, into the part lent for it.
+use Rattle.batch.proofs.Reading.{reading}
+use Rattle.std.proofs.Common.{rules}
+use Rattle.batch.proofs.next_session.Goals as goal
+
+pub returns-then-got-lt4 : goal.returns-then-got-lt4
+returns-then-got-lt4 g c = search (rules, reading)
+
+pub returns-then-buffer-n : goal.returns-then-buffer-n
+returns-then-buffer-n g c = search (rules, reading)
+
+pub returns-then-read_full-n : goal.returns-then-read_full-n
+returns-then-read_full-n g c = search (rules, reading)
+
+pub returns : goal.returns
+returns g c = (search (rules, reading), search (rules, reading))

@@ -1,0 +1,2 @@
+pub mod On
+pub mod Head
