@@ -26,6 +26,7 @@ pub fn search_on<'a>(
 }
 
 // Search with a new maximum. "13: .. negative maximum; decoder as before"
+#[tactic(auto, using(crate::proofs::Ends::ends_to, crate::proofs::Ends::ends_negative))]
 pub fn search_to<'a>(
     board: &'a Board,
     weights: &'a Weights,

@@ -31,6 +31,7 @@ fn is_same(a: &[u64], b: &[u64]) -> bool
 }
 
 // A step that leaves the registers as they were is found again while its length is left: such steps are taken together.
+#[tactic(auto, using(crate::proofs::Again::repeats_none, crate::proofs::Again::repeats_some))]
 fn repeats(before: &Registers, after: &Registers, left: u32, length: u32) -> u32
     requires { 1 ≤ length }
     ensures { Repeats before.now after.now left length result }

@@ -15,7 +15,7 @@ use Rattle.rules.specs.declared.state.State.{State}
 use Rattle.listing.specs.Lines.{longest_pairs}
 use Rattle.records.specs.Records.{Record, bytes, joined, split, Fits, AllFit}
 use Rattle.records.specs.Chunks.{Told, Chunk, is_ended, silent, after, stopped, followed, tells, runs}
-use Rattle.records.specs.Chunks as Any
+use Rattle.records.specs.Chunks
 use Rattle.records.specs.Session.{behind, call_of, acted_by, acted}
 use Rattle.records.specs.declared.Stop.{Stop}
 use Rattle.records.specs.declared.Stop.TheVariants.{WantsBytes, WantsRoom, Ended}
@@ -66,7 +66,7 @@ module _ (g : Graph) where
       (λ t. rw no_calls (stopped_carries s WantsRoom refl))
 
   pub chunk_carries : (bs : List ℕ) (s : State) (room : ℕ) → Carries g s (used (chunk g s room bs) bs) (chunk g s room bs)
-  unfolding Any.chunk
+  unfolding Chunks.chunk
   chunk_carries bs s room =
       let t = split behind bs in
       let c = runs (acted g) longest_pairs s room t.whole in
@@ -92,7 +92,7 @@ module _ (g : Graph) where
   tells_carries (r ∷ rs) left s = by_call s (call_of r) rs left _ (tells_carries rs left (acted g s r).state)
 
   pub session_carries : (bs : List ℕ) (s : State) → CarriesAll g s bs (session g s bs)
-  unfolding Any.session calls_in end_of
+  unfolding Chunks.session calls_in end_of
   session_carries bs s =
       let is = session_is g bs s in
       let h = tells_carries (split behind bs).whole (length (split behind bs).left) s in

@@ -4,7 +4,7 @@ use Rattle.laws.specs.Choice.{◌and◌, pick}
 use Rattle.laws.specs.Placed.{placed}
 use Rattle.rules.specs.declared.graph.Graph.{Graph}
 use Rattle.rules.specs.declared.state.State.{State}
-use Rattle.records.specs.Chunks as Any
+use Rattle.records.specs.Chunks
 use Rattle.records.specs.Session.{behind, acted}
 use Rattle.records.specs.declared.Stop.{Stop}
 use Rattle.records.specs.declared.Stop.TheVariants.{WantsBytes, WantsRoom, Ended}
@@ -14,15 +14,15 @@ use Rattle.session.specs.declared.Last.{Last}
 use Rattle.session.specs.declared.Last.TheVariants as L
 
 -- as many of the records as are whole and find room for the longest line, which is a pair list
-abbrev pub chunk : Graph → State → ℕ → List ℕ → Any.Chunk State
-chunk g s room bs = Any.chunk (acted g) behind longest_pairs s room bs
+abbrev pub chunk : Graph → State → ℕ → List ℕ → Chunks.Chunk State
+chunk g s room bs = Chunks.chunk (acted g) behind longest_pairs s room bs
 
 -- all that a program may do with input that comes in pieces
 abbrev pub Replay : Graph → State → List ℕ → List (List ℕ) → List ℕ → Type 0
-Replay g s held pieces text = Any.Replay (acted g) behind longest_pairs s held pieces text
+Replay g s held pieces text = Chunks.Replay (acted g) behind longest_pairs s held pieces text
 
 -- what is told of a chunk
-abbrev pub done_of : Any.Chunk State → Done
+abbrev pub done_of : Chunks.Chunk State → Done
 done_of c = record { state = c.state; used = c.used; written = length c.text; stop = c.stop }
 
 -- whether another record is run, where so many bytes are left and there is so much room
@@ -37,10 +37,10 @@ stop_of ended left = pick ended Ended (pick (ltb left 5) WantsBytes WantsRoom)
 
 -- whether the last line finds room: its own length is enough
 unfoldable pub last_fits : ℕ → List ℕ → Bool
-last_fits left out = leb (length (Any.end_text left)) (length out)
+last_fits left out = leb (length (Chunks.end_text left)) (length out)
 
 unfoldable pub last_of : ℕ → List ℕ → Last
-last_of left out = pick (last_fits left out) (L.Wrote (length (Any.end_text left))) L.WantsRoom
+last_of left out = pick (last_fits left out) (L.Wrote (length (Chunks.end_text left))) L.WantsRoom
 
 unfoldable pub last_in : ℕ → List ℕ → List ℕ
-last_in left out = pick (last_fits left out) (placed 0 (Any.end_text left) out) out
+last_in left out = pick (last_fits left out) (placed 0 (Chunks.end_text left) out) out

@@ -6,11 +6,5 @@ use Rattle.batch.proofs.next_session.Goals as goal
 pub returns-then-got-lt4 : goal.returns-then-got-lt4
 returns-then-got-lt4 g c = search (rules, reading)
 
-pub returns-then-buffer-n : goal.returns-then-buffer-n
-returns-then-buffer-n g c = search (rules, reading)
-
-pub returns-then-read_full-n : goal.returns-then-read_full-n
-returns-then-read_full-n g c = search (rules, reading)
-
 pub returns : goal.returns
 returns g c = (search (rules, reading), search (rules, reading))
