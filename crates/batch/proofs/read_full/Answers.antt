@@ -1,3 +1,4 @@
+-- What a turn reads stands behind what was read before, and is what the reader had next.
 use Rattle.std.proofs.Common.{rules, sym, subst}
 use Rattle.std.proofs.KnownBytes.{Consumes-trans}
 use Rattle.std.specs.Io.KnownBytes.{Consumes}
