@@ -5,54 +5,39 @@
 
 mod call;
 
-use crate::call::{add, run_records};
-use batch::read_full;
+use crate::call::run_records;
+use batch::{buffer, read_full};
 use lay::lay;
-use records::value_at;
-use rules::graph::{Graph, Opening, at_most};
+use rules::graph::{Accepted, Graph};
 use rules::state::State;
 use std::io::Input;
 
 fn run_all(graph: Graph, first: State, records: &[u8], times: u32) -> u64 {
     let board = lay(graph);
-    let mut registers = first.registers;
-    let mut weights = first.weights;
-    let mut stalled = first.stalled;
-    let mut sum = 0;
+    let mut state = first;
+    let mut sum = 0u64;
     for _ in 0..times {
-        let more = run_records(&board, &mut weights, &mut registers, &mut stalled, records);
-        sum = add(sum, more);
+        sum = sum.wrapping_add(run_records(&board, &mut state, records));
     }
     sum
 }
 
 fn show(rt: &impl Print, session: &[u8], times: u32) {
     let decoder = comb::open(session);
-    let opening = decoder.opening;
-    match opening {
-        Opening::Refused(_) => {
-            let _ = println!(rt; "bad");
+    let _ = match decoder.opening {
+        Err(_) => rt.println("bad"),
+        Ok(Accepted { units: _, start }) => {
+            let records = &session[start.min(session.len())..];
+            rt.println(run_all(decoder.graph, decoder.state, records, times))
         }
-        Opening::Accepted { units: _, start } => {
-            let graph = decoder.graph;
-            let state = decoder.state;
-            let from = at_most(start, session.len());
-            let sum = run_all(graph, state, &session[from..], times);
-            let _ = println!(rt; "{sum}");
-        }
-    }
-}
-
-// A buffer whose bytes no proof looks into.
-fn room() -> [u8; 1048576] {
-    [0u8; 1048576]
+    };
 }
 
 fn main(rt: HostRuntime) {
     let mut reader = rt.reader();
-    let mut times = [0u8; 4];
+    let mut times = [0; 4];
     read_full(&mut reader, &mut times);
-    let mut session = room();
+    let mut session = buffer::<1_048_576>();
     let n = read_full(&mut reader, &mut session);
-    show(&rt, &session[0..n], value_at(&times, 0));
+    show(&rt, &session[..n], u32::from_le_bytes(times));
 }

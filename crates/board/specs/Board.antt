@@ -1,6 +1,7 @@
 -- What stands on a board, each part as a list of its own, so that the definitions and laws over a graph's tables hold of it as they are.
-use Rattle.std.specs.Prelude.{ℕ, zero, suc, ◌+◌, ◌≤◌, ◌<◌, min, ◌≡◌, refl, List, [], ◌∷◌, length, get_or}
-use Rattle.std.proofs.Common.{sym, arith}
+use Rattle.std.specs.Prelude.{ℕ, ◌+◌, ◌≤◌, ◌<◌, min, ◌≡◌, List, length, get_or, take, drop}
+use Rattle.std.proofs.Common.{sym, ◌∙◌, arith, add_comm, length-take, length-drop}
+use Rattle.std.proofs.lemmas.List.{ext_get_or, get_or_past, get_or-take, get_or-drop}
 use Rattle.laws.specs.Table.{table, length_table, get_or_table}
 use Rattle.rules.specs.Fetch.{fetched}
 use Rattle.rules.specs.declared.graph.Graph.{Graph}
@@ -18,17 +19,20 @@ pub part_at : (n k : ℕ) (b : List ℕ) (i : ℕ) → i < n → get_or b (i + k
 unfolding part
 part_at n k b i l = sym (get_or_table (entry_at k b) n i 0 l)
 
-past : (l : List ℕ) (i : ℕ) → length l ≤ i → 0 ≡ get_or l i 0
-past [] i h = refl
-past (x ∷ l) zero h = absurd (omega arith)
-past (x ∷ l) (suc i) h = past l i (omega arith)
-
 -- beyond its end a part reads 0
 pub part_past : (n k : ℕ) (b : List ℕ) (i : ℕ) → n ≤ i → 0 ≡ get_or (part n k b) i 0
 unfolding part
-part_past n k b i h = past (table n (entry_at k b)) i (omega (arith, length_table (entry_at k b) n))
+part_past n k b i h = sym (get_or_past (table n (entry_at k b)) i 0 (omega (arith, length_table (entry_at k b) n)))
 
 pub ruleset entries = (part_at, part_past)
+
+-- a part is a slice of its table
+pub slice_part : (n k : ℕ) (b : List ℕ) → n + k ≤ length b → take n (drop k b) ≡ part n k b
+unfolding part
+slice_part n k b h =
+    let long : length (take n (drop k b)) ≡ n = grind (arith, length-take, length-drop) in
+    ext_get_or 0 _ _ (long ∙ sym (length_table (entry_at k b) n))
+    (λ i l. let u : i < n = rw long at l in get_or-take n (drop k b) i 0 u ∙ get_or-drop k b i 0 ∙ rw (add_comm k i) (sym (get_or_table (entry_at k b) n i 0 u)))
 
 module _ (b : List ℕ) where
   unfoldable pub vertices_on : List ℕ

@@ -1,97 +1,106 @@
 // A graph and what is worked out from it, in one table: made by `lay`, and read by these functions alone (specs/Board.antt says where each part
 // stands).
-#![tactic(auto)]
+#![tactic(auto, using(crate::specs::Board::entries), unfolding(crate::specs::Board::vertices_on, crate::specs::Board::degrees_on, crate::specs::Board::edges_on, crate::specs::Board::units_on, crate::specs::Board::places_on))]
 
 ghost use Rattle.std.specs.Prelude.{◌≡◌, ◌+◌, ◌*◌, ◌<◌, get_or};
-ghost use Rattle.laws.specs.Table.{table};
-ghost use Rattle.board.specs.Board.{vertices_on, degrees_on, edges_on, units_on, places_on, defaults_on, nv_on, ne_on, nu_on, reach_on};
+ghost use Rattle.places.specs.Places.{edge_in, far_in};
+ghost use Rattle.board.specs.Board.{vertices_on, degrees_on, edges_on, units_on, places_on, defaults_on, nv_on, ne_on, nu_on, reach_on, Laid};
 
-use rules::graph::at_most;
 use rules::tables::Weights;
 
-pub type Board = [u32; 8720];
+pub type Table = [u32; 8720];
 
-pub fn vertex(board: &Board, v: u8) -> u32
-    ensures { result ≡ get_or (vertices_on board.now) v 0 }
+// A table whose places are those of its edges.
+#[derive(Clone, Copy)]
+pub struct Board {
+    pub table: Table,
+    ghost laid: { Laid table },
+}
+
+pub fn vertex(table: &Table, v: u8) -> u32
+    ensures { result ≡ get_or (vertices_on table.now) v 0 }
 {
-    board[v as usize + 16]
+    table[v as usize + 16]
 }
 
 // How many places of a vertex are in use.
-pub fn degree(board: &Board, v: u8) -> u32
-    ensures { result ≡ get_or (degrees_on board.now) v 0 }
+pub fn degree(table: &Table, v: u8) -> u32
+    ensures { result ≡ get_or (degrees_on table.now) v 0 }
 {
-    board[v as usize + 272]
+    table[v as usize + 272]
 }
 
-pub fn edge(board: &Board, e: usize) -> u32
+pub fn edge(table: &Table, e: usize) -> u32
     requires { e < 1_024 }
-    ensures { result ≡ get_or (edges_on board.now) e 0 }
+    ensures { result ≡ get_or (edges_on table.now) e 0 }
 {
-    board[e + 528]
+    table[e + 528]
 }
 
-pub fn unit(board: &Board, u: usize) -> u32
-    ensures { result ≡ get_or (units_on board.now) u 0 }
+pub fn unit(table: &Table, u: usize) -> u32
+    ensures { result ≡ get_or (units_on table.now) u 0 }
 {
-    if u < 2_048 { board[u + 1_552] } else { 0 }
+    if u < 2_048 { table[u + 1_552] } else { 0 }
+}
+
+// A place's word: an edge, and its end that is not the place's vertex.
+#[derive(Clone, Copy, Debug, PartialEq, Eq)]
+pub struct PlaceWord(pub u32);
+
+impl PlaceWord {
+    pub fn edge(self) -> usize
+        ensures { result ≡ edge_in self.0 }
+    {
+        (self.0 % 1_024) as usize
+    }
+
+    pub fn far(self) -> u8
+        ensures { result ≡ far_in self.0 }
+    {
+        (self.0 / 1_024 % 256) as u8
+    }
 }
 
 // Place k of a vertex. A test of k would cost 3 % of all instructions.
-pub fn place(board: &Board, v: u8, k: u32) -> u32
+pub fn place(table: &Table, v: u8, k: u32) -> PlaceWord
     requires { k < 16 }
-    ensures { result ≡ get_or (places_on board.now) (v * 16 + k) 0 }
+    ensures { result.0 ≡ get_or (places_on table.now) (v * 16 + k) 0 }
 {
-    board[v as usize * 16 + k as usize + 3_600]
+    PlaceWord(table[v as usize * 16 + k as usize + 3_600])
 }
 
-// Counts go no further than their tables: the bounds are seen by the compiler, and save it work in the loops.
-fn wide(x: u32) -> usize
-    ensures { result ≡ x }
+// Counts go no further than their tables: the bounds are seen by the compiler, and save it work in the loops. Four functions and not one over the
+// place and the bound, which would have no definition to equal; so it is with `vertex` and `degree`.
+pub fn nv(table: &Table) -> usize
+    ensures { result ≡ nv_on table.now }
 {
-    x as usize
+    (table[0] as usize).min(256)
 }
 
-pub fn nv(board: &Board) -> usize
-    ensures { result ≡ nv_on board.now }
+pub fn ne(table: &Table) -> usize
+    ensures { result ≡ ne_on table.now }
 {
-    at_most(wide(board[0]), 256)
+    (table[1] as usize).min(1_024)
 }
 
-pub fn ne(board: &Board) -> usize
-    ensures { result ≡ ne_on board.now }
+pub fn nu(table: &Table) -> usize
+    ensures { result ≡ nu_on table.now }
 {
-    at_most(wide(board[1]), 1_024)
-}
-
-pub fn nu(board: &Board) -> usize
-    ensures { result ≡ nu_on board.now }
-{
-    at_most(wide(board[2]), 2_048)
+    (table[2] as usize).min(2_048)
 }
 
 // No end of an edge in use stands there or beyond.
-pub fn reach(board: &Board) -> usize
-    ensures { result ≡ reach_on board.now }
+pub fn reach(table: &Table) -> usize
+    ensures { result ≡ reach_on table.now }
 {
-    at_most(wide(board[3]), 256)
-}
-
-fn no_weights() -> Weights
-    ensures { result ≡ table 1_024 (λ e. 0) }
-{
-    [0u32; 1024]
+    (table[3] as usize).min(256)
 }
 
 // The weights that a reset leaves.
-pub fn defaults(board: &Board) -> Weights
-    ensures { result ≡ defaults_on board.now }
+pub fn defaults(table: &Table) -> Weights
+    ensures { result ≡ defaults_on table.now }
 {
-    let mut weights = no_weights();
-    let mut e: usize = 0;
-    while e < 1_024 {
-        weights[e] = board[e + 7_696];
-        e += 1;
-    }
+    let mut weights = [0u32; 1024];
+    weights.copy_from_slice(&table[7_696..]);
     weights
 }

@@ -9,30 +9,29 @@ ghost use Rattle.rules.specs.Search as Search;
 ghost use Rattle.rules.specs.State as Fresh;
 ghost use Rattle.comb.specs.Decoder.{decoder_of};
 
-use comb_cycle::cycle::no_flags;
 use comb_lent::instruct::instruct;
 use comb_lent::reset::fresh_registers;
 use comb_lent::word::carry_word;
 use comb_lent::{pairs, search};
 use lay::lay;
-use rules::finding::Listed;
-use rules::graph::{Graph, Opening};
+use rules::graph::{Accepted, Graph};
 use rules::instruction::Instruction;
+use rules::refusal::Refusal;
 use rules::state::{Cycle, Searched, State, WordCycle};
+use rules::tables::no_flags;
 
 // A refused image opens no decoder: its graph is blank.
-#[derive(Clone, Copy)]
+#[derive(Clone, Copy, Debug, PartialEq, Eq)]
 pub struct Decoder {
     pub graph: Graph,
     pub state: State,
-    pub opening: Opening,
+    pub opening: Result<Accepted, Refusal>,
 }
 
 fn fresh_state(graph: Graph, maximum: u32) -> State
     ensures { result ≡ Fresh.fresh_state graph maximum }
 {
-    let board = lay(graph);
-    let registers = fresh_registers(&board);
+    let registers = fresh_registers(&lay(graph));
     let weights = graph.weights;
     let stalled = no_flags();
     State {
@@ -44,6 +43,7 @@ fn fresh_state(graph: Graph, maximum: u32) -> State
 }
 
 // "The first maximum is no limit"
+#[tactic(auto, unfolding(rules::specs::State::first_state))]
 pub fn first_state(graph: Graph) -> State
     ensures { result ≡ Fresh.first_state graph }
 {
@@ -51,129 +51,63 @@ pub fn first_state(graph: Graph) -> State
 }
 
 // "Reset does this and empties the pair list; it keeps the maximum"
+#[tactic(auto, unfolding(rules::specs::State::reset))]
 pub fn reset(graph: Graph, state: State) -> State
     ensures { result ≡ Fresh.reset graph state }
 {
     fresh_state(graph, state.maximum)
 }
 
+#[tactic(auto, using(crate::proofs::Whole::opens))]
 pub fn open(bytes: &[u8]) -> Decoder
     ensures { result ≡ decoder_of (Image.opened bytes.now) }
 {
     let opened = image::open(bytes);
-    let graph = opened.graph;
-    let opening = opened.opening;
     Decoder {
-        graph,
-        state: first_state(graph),
-        opening,
+        graph: opened.graph,
+        state: first_state(opened.graph),
+        opening: opened.opening,
     }
 }
 
-pub fn execute(graph: Graph, state: State, instruction: Instruction) -> Cycle
+#[tactic(auto, using(crate::proofs::Whole::executes))]
+pub fn execute(graph: Graph, mut state: State, instruction: Instruction) -> Cycle
     ensures { result ≡ Instruct.instruct graph state instruction }
 {
-    let board = lay(graph);
-    let mut registers = state.registers;
-    let mut stalled = state.stalled;
-    let answer = instruct(
-        &board,
-        &state.weights,
-        &mut registers,
-        &mut stalled,
-        instruction,
-    );
-    let after = State {
-        registers,
-        weights: state.weights,
-        stalled,
-        maximum: state.maximum,
-    };
-    Cycle {
-        state: after,
-        answer,
-    }
+    let answer = instruct(&lay(graph), &mut state, instruction);
+    Cycle { state, answer }
 }
 
-pub fn execute_word(graph: Graph, state: State, word: u32) -> WordCycle
+#[tactic(auto, using(crate::proofs::Whole::words))]
+pub fn execute_word(graph: Graph, mut state: State, word: u32) -> WordCycle
     ensures { result ≡ Instruct.word_run graph state word }
 {
-    let board = lay(graph);
-    let mut registers = state.registers;
-    let mut weights = state.weights;
-    let mut stalled = state.stalled;
-    let answer = carry_word(&board, &mut weights, &mut registers, &mut stalled, word);
-    let after = State {
-        registers,
-        weights,
-        stalled,
-        maximum: state.maximum,
-    };
-    WordCycle {
-        state: after,
-        answer,
-    }
+    let answer = carry_word(&lay(graph), &mut state, word);
+    WordCycle { state, answer }
 }
 
 // Search with what is left of the maximum.
-pub fn search_on(graph: Graph, state: State) -> Searched
+#[tactic(auto, using(crate::proofs::Whole::searches_on))]
+pub fn search_on(graph: Graph, mut state: State) -> Searched
     ensures { result ≡ Search.search_on graph state }
 {
-    let board = lay(graph);
-    let mut registers = state.registers;
-    let mut stalled = state.stalled;
-    let found = search::search_on(
-        &board,
-        &state.weights,
-        &mut registers,
-        &mut stalled,
-        state.maximum,
-    );
-    let answer = found.answer;
-    let after = State {
-        registers,
-        weights: state.weights,
-        stalled,
-        maximum: found.left,
-    };
-    Searched {
-        state: after,
-        answer,
-    }
+    let answer = search::search_on(&lay(graph), &mut state);
+    Searched { state, answer }
 }
 
 // Search with a new maximum, 32 bits read as signed.
-pub fn search_to(graph: Graph, state: State, maximum: u32) -> Searched
+#[tactic(auto, using(crate::proofs::Whole::searches_to))]
+pub fn search_to(graph: Graph, mut state: State, maximum: u32) -> Searched
     ensures { result ≡ Search.search_to graph state maximum }
 {
-    let board = lay(graph);
-    let mut registers = state.registers;
-    let mut stalled = state.stalled;
-    let found = search::search_to(
-        &board,
-        &state.weights,
-        &mut registers,
-        &mut stalled,
-        state.maximum,
-        maximum,
-    );
-    let answer = found.answer;
-    let after = State {
-        registers,
-        weights: state.weights,
-        stalled,
-        maximum: found.left,
-    };
-    Searched {
-        state: after,
-        answer,
-    }
+    let answer = search::search_to(&lay(graph), &mut state, maximum);
+    Searched { state, answer }
 }
 
-pub fn list_pairs(state: State, buffer: &mut [u16]) -> Listed
+#[tactic(auto, using(crate::proofs::Whole::lists, crate::proofs::Whole::buffers))]
+pub fn list_pairs(state: State, buffer: &mut [u16]) -> Result<usize, Refusal>
     ensures value { result ≡ Pairs.listed state (length buffer.old) }
     ensures buffer_after { buffer.new ≡ Pairs.buffered state buffer.old }
 {
-    let stalled = state.stalled;
-    pairs::list_pairs(&stalled, buffer)
+    pairs::list_pairs(&state.stalled, buffer)
 }

@@ -1,10 +1,6 @@
 -- The strongest report says what stages 7 and 8 answer: edge by edge, a report joins the ones before it as its response does theirs, since the
 -- first conflict has the lesser edge index.
-use Prim.Native.Nat.{ℕ, zero, suc, ◌<◌, min}
-use mathlib.Core.Path.{◌≡◌, refl, sym, ap, subst, ◌∙◌}
-use mathlib.Core.Bool.{Bool, true, false}
-use mathlib.Core.List.{List}
-use native.Mathlib.Omega.{arith}
+use Rattle.std.proofs.Common.{ℕ, zero, suc, ◌<◌, min, ◌≡◌, refl, sym, ap, subst, ◌∙◌, Bool, true, false, List, arith, Err, Ok}
 use Rattle.laws.specs.Choice.{◌or◌, pick}
 use Rattle.laws.specs.Fold.{up_to}
 use Rattle.laws.specs.Semilattice.{joined}
@@ -14,8 +10,7 @@ use Rattle.rules.specs.declared.index.EdgeIndex.{EdgeIndex}
 use Rattle.rules.specs.declared.finding.Length.TheVariants.{NoLimit}
 use Rattle.rules.specs.declared.finding.Finding.{Finding}
 use Rattle.rules.specs.declared.finding.Finding.TheVariants.{GrowLength, Conflict}
-use Rattle.rules.specs.declared.finding.Response.{Response}
-use Rattle.rules.specs.declared.finding.Response.TheVariants.{Reports, OddRemaining}
+use Rattle.rules.specs.Types.{Response, odd_remaining}
 use Rattle.interface.proofs.Join.{reduce_assoc, reduce_unit_right}
 use Rattle.comb_cycle.specs.Responses.{finding_to, responded}
 use Rattle.comb_cycle.specs.Strongest.{stronger, strongest_of, report_of, report, strongest, answer, reduced_with}
@@ -24,32 +19,32 @@ use Rattle.comb_cycle.specs.declared.report.Report.TheVariants.{Odd, Conflict as
 
 -- two responses as one
 abbrev both : Response → Response → Response
-both OddRemaining s = OddRemaining
-both (Reports f) OddRemaining = OddRemaining
-both (Reports f) (Reports g) = Reports (reduce f g)
+both (Err _) s = Err odd_remaining
+both (Ok f) (Err _) = Err odd_remaining
+both (Ok f) (Ok g) = Ok (reduce f g)
 
-both_odd : (r : Response) → both r OddRemaining ≡ OddRemaining
-both_odd (Reports f) = refl
-both_odd OddRemaining = refl
+both_odd : (r : Response) → both r (Err odd_remaining) ≡ Err odd_remaining
+both_odd (Ok f) = refl
+both_odd (Err _) = refl
 
 abbrev is_conflict : Response → Bool
-is_conflict (Reports (GrowLength l)) = false
-is_conflict (Reports (Conflict a b)) = true
-is_conflict OddRemaining = false
+is_conflict (Ok (GrowLength l)) = false
+is_conflict (Ok (Conflict a b)) = true
+is_conflict (Err _) = false
 
-conflict_stays : (r : Response) (g : Finding) → is_conflict r ≡ true → both r (Reports g) ≡ r
-conflict_stays (Reports (GrowLength l)) g h = cc
-conflict_stays (Reports (Conflict a b)) g h = refl
-conflict_stays OddRemaining g h = refl
+conflict_stays : (r : Response) (g : Finding) → is_conflict r ≡ true → both r (Ok g) ≡ r
+conflict_stays (Ok (GrowLength l)) g h = cc
+conflict_stays (Ok (Conflict a b)) g h = refl
+conflict_stays (Err _) g h = refl
 
 -- one response more
-more : (b : Bool) (f : Finding) (s : Response) → pick (b or odd s) OddRemaining (Reports (reduce f (reported s))) ≡ both (pick b OddRemaining (Reports f)) s
+more : (b : Bool) (f : Finding) (s : Response) → pick (b or odd s) (Err odd_remaining) (Ok (reduce f (reported s))) ≡ both (pick b (Err odd_remaining) (Ok f)) s
 unfolding pick ◌or◌
 more true f s = refl
-more false f (Reports g) = refl
-more false f OddRemaining = refl
+more false f (Ok g) = refl
+more false f (Err _) = refl
 
-with_start : (b : Bool) (start f : Finding) → pick b OddRemaining (Reports (reduce start f)) ≡ reduced_with start (pick b OddRemaining (Reports f))
+with_start : (b : Bool) (start f : Finding) → pick b (Err odd_remaining) (Ok (reduce start f)) ≡ reduced_with start (pick b (Err odd_remaining) (Ok f))
 unfolding pick
 with_start true start f = refl
 with_start false start f = refl
@@ -83,15 +78,15 @@ module _ (es fs ys ss : List ℕ) where
 
     joins : (x : Report) (s : Response) → edge_response es fs ys ss n ≡ s → Known n x → Joins x s
     joins Odd s q k = (refl, tt)
-    joins (ConflictAt e) OddRemaining q k = (sym (both_odd (edge_response es fs ys ss e.0)), tt)
-    joins (ConflictAt e) (Reports (Conflict a b)) q k =
+    joins (ConflictAt e) (Err _) q k = (sym (both_odd (edge_response es fs ys ss e.0)), tt)
+    joins (ConflictAt e) (Ok (Conflict a b)) q k =
         let z : min e.0 n ≡ e.0 = omega arith in
         rw z (sym (conflict_stays (edge_response es fs ys ss e.0) (Conflict a b) k.1), (omega arith, k.1))
-    joins (ConflictAt e) (Reports (GrowLength m)) q k =
+    joins (ConflictAt e) (Ok (GrowLength m)) q k =
         (sym (conflict_stays (edge_response es fs ys ss e.0) (GrowLength m) k.1), (omega arith, k.1))
-    joins (LengthOf l) OddRemaining q k = (refl, tt)
-    joins (LengthOf l) (Reports (Conflict a b)) q k = (q, (omega arith, rw q))
-    joins (LengthOf l) (Reports (GrowLength m)) q k = (refl, tt)
+    joins (LengthOf l) (Err _) q k = (refl, tt)
+    joins (LengthOf l) (Ok (Conflict a b)) q k = (q, (omega arith, rw q))
+    joins (LengthOf l) (Ok (GrowLength m)) q k = (refl, tt)
 
   says : (n : ℕ) → (answer es fs ys ss (strongest es fs ys ss n) ≡ found n) × Known n (strongest es fs ys ss n)
   unfolding strongest strongest_of joined report up_to responded some_odd finding_to pick

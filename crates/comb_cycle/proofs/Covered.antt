@@ -1,12 +1,6 @@
 -- The edges of the vertices that grow are enough: an edge neither of whose ends grows has no joint speed and reports no limit, and any other
 -- is met at an end that grows, below the reach. Meeting it at both ends changes nothing.
-use Prim.Native.Nat.{ℕ, ◌+◌, ◌*◌, ◌<◌}
-use mathlib.Core.Path.{◌≡◌, refl, ap, ◌∙◌}
-use mathlib.Core.Bool.{Bool, true, false}
-use mathlib.Core.List.{List}
-use lib.Dec.{eqb}
-use lib.ListN.{get_or}
-use borrow.Author.Tests.{eq-eqb}
+use Rattle.std.proofs.Common.{ℕ, ◌+◌, ◌*◌, ◌<◌, ◌≡◌, refl, ap, ◌∙◌, Bool, true, false, List, eqb, get_or, eq-eqb}
 use Rattle.laws.specs.Choice.{pick, by_test}
 use Rattle.laws.specs.Tests.{the_second}
 use Rattle.laws.specs.Semilattice.{joined, Has, has_met, has_part, has_all, same_joined, joined_picked}

@@ -1,18 +1,14 @@
 -- The lesser of two ranks is the stronger report's: a rank at most another is of a kind at least as strong, and within a kind the ranks run as
 -- the edge indices or the lengths do.
-use Prim.Native.Nat.{ℕ, ◌+◌, ◌-◌, ◌≤◌, ◌<◌, min}
-use mathlib.Core.Path.{◌≡◌, refl, ap, ◌∙◌}
-use native.Mathlib.Omega.{arith, min_cases}
-use lib.Dec.{ltb}
-use borrow.Author.Tests.{ltb-true, ltb-false, lt-ltb, le-ltb}
+use Rattle.std.proofs.Common.{ℕ, ◌+◌, ◌-◌, ◌≤◌, ◌<◌, min, ◌≡◌, refl, ap, ◌∙◌, arith, ltb, ltb-true, ltb-false, lt-ltb, le-ltb, Err, Ok}
+use native.Mathlib.Omega.{min_cases}
 use Rattle.laws.specs.Choice.{pick, by_test}
 use Rattle.rules.specs.declared.finding.Length.{Length}
 use Rattle.rules.specs.declared.finding.Length.TheVariants.{NoLimit, Ahead, Behind}
 use Rattle.rules.specs.declared.finding.Side.{Side}
 use Rattle.rules.specs.declared.finding.Finding.{Finding}
 use Rattle.rules.specs.declared.finding.Finding.TheVariants.{GrowLength, Conflict}
-use Rattle.rules.specs.declared.finding.Response.{Response}
-use Rattle.rules.specs.declared.finding.Response.TheVariants.{Reports, OddRemaining}
+use Rattle.rules.specs.Types.{Response, odd_remaining}
 use Rattle.comb_cycle.specs.Rank.{report_in}
 use Rattle.comb_cycle.specs.Strongest.{silent, stronger, report_of}
 use Rattle.comb_cycle.specs.declared.report.Report.{Report}
@@ -63,18 +59,18 @@ lesser_stronger a b =
 
 -- ---- the ranks that the code gives
 
-pub odd_rank : {s : Response} → s ≡ OddRemaining → (e : ℕ) → report_in 0 ≡ report_of e s
+pub odd_rank : {s : Response} → s ≡ Err odd_remaining → (e : ℕ) → report_in 0 ≡ report_of e s
 unfolding report_in pick
 odd_rank p e = rw p
 
-pub conflict_rank : {s : Response} {f : Finding} {a b : Side} → s ≡ Reports f → f ≡ Conflict a b → (e : ℕ) → e < 65_536
+pub conflict_rank : {s : Response} {f : Finding} {a b : Side} → s ≡ Ok f → f ≡ Conflict a b → (e : ℕ) → e < 65_536
     → report_in (4_294_901_760 + e) ≡ report_of e s
 unfolding report_in pick
 conflict_rank p q e l =
     let r = 4_294_901_760 + e in
     rw (p, q, le-ltb r 4_294_901_760 (omega arith), lt-ltb r 4_294_967_296 (omega arith)) (ap conflict_at (omega arith))
 
-pub length_rank : {s : Response} {f : Finding} {l : Length} → s ≡ Reports f → f ≡ GrowLength l → (r e : ℕ) → report_in r ≡ LengthOf l
+pub length_rank : {s : Response} {f : Finding} {l : Length} → s ≡ Ok f → f ≡ GrowLength l → (r e : ℕ) → report_in r ≡ LengthOf l
     → report_in r ≡ report_of e s
 length_rank p q r e h = rw (p, q) h
 

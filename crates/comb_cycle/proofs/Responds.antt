@@ -1,36 +1,31 @@
 -- Each turn of a walk takes in one report more; at its end a walk has what all edges report, and the strongest report is the answer. Over variables.
-use Prim.Native.Nat.{ℕ, ◌+◌, ◌*◌, ◌≤◌, ◌<◌, min}
-use mathlib.Core.Path.{◌≡◌, refl, sym, ap, ◌∙◌, subst}
-use mathlib.Core.List.{List, [], ◌∷◌}
-use native.Mathlib.Numerals.{add-one}
-use native.Mathlib.Omega.{arith}
-use types.Run.{OneOf}
-use denote.Enum.Declared.{tag_of}
-use lib.ListN.{length, get_or}
+use Rattle.std.proofs.Common.{ℕ, ◌+◌, ◌*◌, ◌≤◌, ◌<◌, min, ◌≡◌, refl, sym, ap, ◌∙◌, subst, List, add-one, arith, length, get_or, Err, Ok}
 use Rattle.laws.specs.Choice.{pick}
-use Rattle.laws.specs.Fold.{up_to, count_to}
+use Rattle.laws.specs.Fold.{up_to}
+use Rattle.laws.specs.Listed.{indices}
 use Rattle.laws.specs.Semilattice.{joined}
 use Rattle.rules.specs.Reduce.{reduce}
+use Rattle.rules.specs.Respond.{edge_response}
 use Rattle.rules.specs.declared.index.EdgeIndex.{EdgeIndex}
+use Rattle.rules.specs.declared.finding.Length.{Length}
+use Rattle.rules.specs.declared.finding.OddRemaining.{OddRemaining}
+use Rattle.rules.specs.declared.finding.Finding.TheVariants.{GrowLength}
 use Rattle.rules.specs.declared.finding.Finding.{Finding}
-use Rattle.rules.specs.declared.finding.Response.{Response}
-use Rattle.rules.specs.declared.finding.Response.TheVariants.{Reports, OddRemaining}
-use Rattle.rules.specs.contracts.finding.Response.{the_type}
+use Rattle.rules.specs.Types.{Response, odd_remaining}
 use Rattle.places.specs.Ends.{Ends}
 use Rattle.places.specs.Places.{edge_in, far_in}
 use Rattle.places.specs.Wired.{Wired}
-use Rattle.comb_cycle.specs.Listed.{grows_at, listed}
+use Rattle.comb_cycle.specs.Listed.{grows_at}
 use Rattle.comb_cycle.specs.Rank.{report_in}
 use Rattle.comb_cycle.specs.Responses.{responded}
 use Rattle.comb_cycle.specs.Strongest.{stronger, strongest_of, report_from, strongest, strongest_at, answer, reduced_with}
 use Rattle.comb_cycle.specs.declared.report.Report.{Report}
-use Rattle.comb_cycle.specs.declared.report.Report.TheVariants.{Odd, Conflict, Length}
-use Rattle.comb_cycle.specs.contracts.report.Report as Reported
+use Rattle.comb_cycle.specs.declared.report.Report.TheVariants.{Odd, Conflict, Length as LengthOf}
 use Rattle.comb_cycle.proofs.Strengths.{strengths}
 use Rattle.comb_cycle.proofs.Ranks.{lesser_stronger}
 use Rattle.comb_cycle.proofs.Answers.{conflict_below, answered}
 use Rattle.comb_cycle.proofs.Covered.{place_report, places_strongest, heard_strongest}
-use Rattle.comb_cycle.proofs.Listing.{heard_from, listed_heard}
+use Rattle.comb_cycle.proofs.Listing.{heard_from, indices_heard}
 
 pub walk_begins : (f : ℕ → Report) → report_in 12_884_901_888 ≡ strongest_of f 0
 unfolding strongest_of joined up_to report_in pick
@@ -70,37 +65,39 @@ module _ (es fs ys ss : List ℕ) (ne : ℕ) (xs : List ℕ) where
   unfolding heard_from
   vertex_turn i p h = one_more (heard_from es fs ys ss ne xs) i p refl h
 
-  pub vertices_end : (ts : List ℕ) (i n r : ℕ) {a : Report} → a ≡ strongest_of (heard_from es fs ys ss ne xs) i → i ≤ n → n ≤ i → n ≡ count_to (grows_at ss) r
-      → xs ≡ listed (grows_at ss) ts r → r ≤ length ts → {m : ℕ} → r ≡ m → Ends es ne m → a ≡ strongest es fs ys ss ne
-  vertices_end ts i n r h k l many which inside same ends =
-      let z : i ≡ n = omega arith in h ∙ rw (z, many, which) (listed_heard es fs ys ss ne ts r inside) ∙ heard_strongest es fs ys ss ne r (subst (λ (q : ℕ). Ends es ne q) (sym same) ends)
+  pub vertices_end : (i r : ℕ) {a : Report} → a ≡ strongest_of (heard_from es fs ys ss ne xs) i → length xs ≡ i → xs ≡ indices (grows_at ss) r → {m : ℕ} → r ≡ m → Ends es ne m
+      → a ≡ strongest es fs ys ss ne
+  vertices_end i r h all which same ends =
+      h ∙ rw (← all, which) (indices_heard es fs ys ss ne r) ∙ heard_strongest es fs ys ss ne r (subst (λ (q : ℕ). Ends es ne q) (sym same) ends)
 
--- ---- what is answered
+-- ---- what is answered: x is the strongest report, whose rank r is, and y what the edge of a conflict responds
 
-pub strongest_read : (es fs ys ss : List ℕ) (ne r : ℕ) {x : Report} → x ≡ report_in r → report_in r ≡ strongest es fs ys ss ne → x ≡ strongest es fs ys ss ne
-strongest_read es fs ys ss ne r p q = p ∙ q
+module _ (es fs ys ss : List ℕ) (ne r : ℕ) {x : Report} (reads : x ≡ report_in r) (is : report_in r ≡ strongest es fs ys ss ne) where
+  -- the strongest conflict is of an edge in the tables
+  pub conflict_inside : {e : EdgeIndex} → x ≡ Conflict e → ne ≤ 1_024 → e.0 < 1_024
+  conflict_inside {e} q l = let below : e.0 < ne = conflict_below es fs ys ss ne e (sym q ∙ reads ∙ is) in omega arith
 
--- the strongest conflict is of an edge in the tables
-pub conflict_inside : (es fs ys ss : List ℕ) {x : Report} {e : EdgeIndex} {n : ℕ} → x ≡ strongest es fs ys ss n → x ≡ Conflict e → n ≤ 1_024 → e.0 < 1_024
-conflict_inside es fs ys ss {x} {e} {n} p q l = let below : e.0 < n = conflict_below es fs ys ss n e (sym q ∙ p) in omega arith
+  module _ (start : Finding) where
+    says : {z : Response} → answer es fs ys ss x ≡ z → reduced_with start z ≡ responded es fs ys ss ne start
+    says e = rw (← e, reads, is) (answered es fs ys ss ne start)
 
-pub says_odd : (es fs ys ss : List ℕ) (x : Report) → OneOf (0 ∷ []) (tag_of Reported.the_type x) → OddRemaining ≡ answer es fs ys ss x
-says_odd es fs ys ss Odd t = refl
-says_odd es fs ys ss (Conflict e) t = absurd (omega arith)
-says_odd es fs ys ss (Length l) t = absurd (omega arith)
+    pub says_odd : x ≡ Odd → Err odd_remaining ≡ responded es fs ys ss ne start
+    says_odd q = says (ap (answer es fs ys ss) q)
 
-pub is_odd_lem : (r : Response) → OneOf (1 ∷ []) (tag_of the_type r) → r ≡ OddRemaining
-is_odd_lem (Reports f) t = absurd (omega arith)
-is_odd_lem OddRemaining t = refl
+    -- n is the edge's index
+    module _ {e : EdgeIndex} {n : ℕ} {y : Response} (q : x ≡ Conflict e) (m : n ≡ e.0) (p : y ≡ edge_response es fs ys ss n) where
+      says_edge : answer es fs ys ss x ≡ y
+      says_edge = ap (answer es fs ys ss) q ∙ sym (p ∙ ap (edge_response es fs ys ss) m)
 
-module _ (es fs ys ss : List ℕ) (ne : ℕ) {x : Report} {r : Response} (says : r ≡ answer es fs ys ss x) (is : x ≡ strongest es fs ys ss ne) where
-  responds_by : (start : Finding) → reduced_with start r ≡ responded es fs ys ss ne start
-  responds_by start = rw (says, is) (answered es fs ys ss ne start)
+      pub says_odd_edge : {o : OddRemaining} → y ≡ Err o → Err o ≡ responded es fs ys ss ne start
+      says_odd_edge f = says (says_edge ∙ f)
 
-  pub responds_odd : (start : Finding) → OneOf (1 ∷ []) (tag_of the_type r) → OddRemaining ≡ responded es fs ys ss ne start
-  responds_odd start t = ap (reduced_with start) (sym (is_odd_lem r t)) ∙ responds_by start
+      pub says_conflict : {g h : Finding} → y ≡ Ok g → h ≡ reduce start g → Ok h ≡ responded es fs ys ss ne start
+      says_conflict f i = ap Ok i ∙ says (says_edge ∙ f)
 
-  pub responds_found : (start : Finding) {g h : Finding} → r ≡ Reports g → h ≡ reduce start g → Reports h ≡ responded es fs ys ss ne start
-  responds_found start q p = ap Reports p ∙ ap (reduced_with start) (sym q) ∙ responds_by start
+    pub says_length : {l : Length} {h : Finding} → x ≡ LengthOf l → h ≡ reduce start (GrowLength l) → Ok h ≡ responded es fs ys ss ne start
+    says_length q m = ap Ok m ∙ says (ap (answer es fs ys ss) q)
 
-pub ruleset responds = (walk_begins, places_begin, place_turn, places_end, vertex_turn, vertices_end, strongest_read, responds_odd, responds_found)
+pub ruleset walks = (walk_begins, places_begin, place_turn, places_end, vertex_turn, vertices_end)
+
+pub ruleset responds = (conflict_inside, says_odd, says_odd_edge)

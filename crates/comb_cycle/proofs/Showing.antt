@@ -1,11 +1,7 @@
 -- Stages 4 to 6 look at a table through the registers that it shows, so tables that show the same lead to the same.
-use Prim.Native.Nat.{ℕ, ◌+◌}
-use mathlib.Core.Path.{◌≡◌, refl, sym, ap, ◌∙◌, fun_ext}
-use mathlib.Core.Bool.{Bool}
-use mathlib.Core.List.{List}
-use mathlib.Core.Option.{Option, none, some}
-use lib.Dec.{leb, eqb}
-use lib.ListN.{get_or}
+use Rattle.std.proofs.Common.{ℕ, ◌+◌, ◌≡◌, refl, sym, ap, ◌∙◌, Bool, List, leb, eqb, get_or, None, Some}
+use mathlib.Core.Path.{fun_ext}
+use Rattle.std.proofs.Math.Option.{Option, none, some}
 use Rattle.laws.specs.Choice.{◌and◌, pick}
 use Rattle.laws.specs.First.{first}
 use Rattle.laws.specs.Table.{paint_same}
@@ -16,14 +12,13 @@ use Rattle.rules.specs.Peer.{is_propagating, lead_by, serves, served_by, peer}
 use Rattle.rules.specs.Update.{updated}
 use Rattle.rules.specs.Shadow.{shadows}
 use Rattle.rules.specs.declared.registers.VertexRegisters.{VertexRegisters}
-use Rattle.rules.specs.declared.registers.PropagatingPeer.{PropagatingPeer}
-use Rattle.rules.specs.declared.registers.PropagatingPeer.TheVariants.{Nobody, Leads}
+use Rattle.rules.specs.Types.{PropagatingPeer}
 use Rattle.comb_vertex.specs.Execution.{Shows}
 
 -- r gives the registers of each vertex
 abbrev lead_of : (ℕ → VertexRegisters) → Option ℕ → PropagatingPeer
-lead_of r none = Nobody
-lead_of r (some p) = Leads (r p).node (r p).root
+lead_of r none = None
+lead_of r (some p) = Some (record { node = (r p).node; root = (r p).root })
 
 lead_of_lem : (xs : List ℕ) (o : Option ℕ) → lead_by xs o ≡ lead_of (at xs) o
 lead_of_lem xs none = refl
@@ -35,11 +30,11 @@ module _ (es fs : List ℕ) (ne v : ℕ) where
       pick (touches es v e and (is_propagating (r (far_end es v e)) and leb (get_or fs e 0) ((r (left_of es e)).grown + (r (right_of es e)).grown))) (some (far_end es v e)) none
 
   abbrev peer_of : (ℕ → VertexRegisters) → PropagatingPeer
-  peer_of r = pick (eqb (r v).grown 0) (lead_of r (first ne (served_of r))) Nobody
+  peer_of r = pick (eqb (r v).grown 0) (lead_of r (first ne (served_of r))) None
 
   peer_of_lem : (xs : List ℕ) → peer es fs xs ne v ≡ peer_of (at xs)
   unfolding peer served_by serves tight
-  peer_of_lem xs = ap (λ (p : PropagatingPeer). pick (eqb (at xs v).grown 0) p Nobody) (lead_of_lem xs (first ne (served_of (at xs))))
+  peer_of_lem xs = ap (λ (p : PropagatingPeer). pick (eqb (at xs v).grown 0) p None) (lead_of_lem xs (first ne (served_of (at xs))))
 
 module _ (es fs : List ℕ) (ne nv : ℕ) {xs ys : List ℕ} (s : Shows nv xs ys) where
   peer_shown : (v : ℕ) → peer es fs xs ne v ≡ peer es fs ys ne v

@@ -1,12 +1,6 @@
 -- An edge is heard alike at either end: what it responds asks of both ends the same, and a report names the edge alone.
-use Prim.Native.Nat.{ℕ, ◌+◌}
-use mathlib.Core.Path.{◌≡◌, refl, sym}
-use mathlib.Core.Bool.{Bool, true, false, not}
-use mathlib.Core.List.{List}
-use native.Mathlib.Omega.{arith}
-use lib.Dec.{eqb}
-use lib.ListN.{get_or}
-use borrow.Author.Tests.{eqb-true, eqb-false, eq-eqb, ne_eqb}
+use Rattle.std.proofs.Common.{ℕ, ◌+◌, ◌≡◌, refl, sym, Bool, true, false, not, List, arith, eqb, get_or, eqb-true, eq-eqb, ne_eqb, Ok}
+use borrow.Author.Tests.{eqb-false}
 use Rattle.laws.specs.Choice.{◌and◌, ◌or◌, pick}
 use Rattle.rules.specs.Graph.{left_of, right_of, touches, far_end}
 use Rattle.rules.specs.Registers.{at, same_node}
@@ -17,8 +11,7 @@ use Rattle.rules.specs.declared.registers.VertexRegisters.{VertexRegisters}
 use Rattle.rules.specs.declared.finding.Length.{Length}
 use Rattle.rules.specs.declared.finding.Side.{Side}
 use Rattle.rules.specs.declared.finding.Finding.TheVariants.{Conflict}
-use Rattle.rules.specs.declared.finding.Response.{Response}
-use Rattle.rules.specs.declared.finding.Response.TheVariants.{Reports}
+use Rattle.rules.specs.Types.{Response}
 use Rattle.comb_cycle.specs.Strongest.{silent, report_of, report_from, report}
 use Rattle.comb_cycle.specs.declared.report.Report.{Report}
 
@@ -40,7 +33,7 @@ joint_either Shrink Shrink = refl
 module _ (e : ℕ) where
   -- z is whether nothing remains, a and b whether the ends are available
   conflict_either : (z a b : Bool) (s t : Side) (r : Response)
-      → report_of e (pick (z and not a and not b) (Reports (Conflict s t)) r) ≡ report_of e (pick (z and not b and not a) (Reports (Conflict t s)) r)
+      → report_of e (pick (z and not a and not b) (Ok (Conflict s t)) r) ≡ report_of e (pick (z and not b and not a) (Ok (Conflict t s)) r)
   unfolding pick ◌and◌
   conflict_either true true true s t r = refl
   conflict_either true true false s t r = refl
@@ -90,3 +83,5 @@ module _ (fs ys ss : List ℕ) (v e w : ℕ) {a b : VertexRegisters} (near : a �
       → x ≡ meeting a b v w l → r ≡ report_of e x → r ≡ report_from fs ys ss v e w
   unfolding report_from respond pick
   hears t i j k m q p = rw (← near, ← far, ← tells, t, ← i, ← j, ← k, ← m, ← q) p
+
+pub ruleset hearing = (hears_nothing, hears)

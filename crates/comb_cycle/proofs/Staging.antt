@@ -1,17 +1,8 @@
 -- Each stage's answer is document 01's, over variables: blank tables and counts that fit make the code's fold the definition's.
-use Prim.Native.Nat.{ℕ, ◌≤◌}
-use mathlib.Core.Path.{◌≡◌, refl, sym, ap, ◌∙◌}
-use mathlib.Core.Bool.{Bool, false}
-use mathlib.Core.List.{List, [], ◌∷◌}
-use mathlib.Core.Option.{Option, none}
-use native.Mathlib.Omega.{arith}
-use types.Run.{OneOf}
-use denote.Enum.Declared.{tag_of}
-use lib.ListN.{get_or, replicate}
+use Rattle.std.proofs.Common.{Result, Ok, ℕ, ◌≤◌, ◌≡◌, refl, sym, ap, ◌∙◌, Bool, false, List, get_or, replicate}
+use Rattle.std.proofs.Math.Option.{Option, none}
 use Rattle.laws.specs.First.{first_has}
 use Rattle.laws.specs.Table.{paint, paint_at}
-use Rattle.laws.specs.Leading.{leading_le}
-use Rattle.rules.specs.Graph.{fits, edges_in_use}
 use Rattle.rules.specs.Units.{stalls, stalled_vertices, stalled_edges}
 use Rattle.rules.specs.Execute.{execute, execute_at, execute_refusal, executed}
 use Rattle.rules.specs.Registers.{at, view}
@@ -19,18 +10,15 @@ use Rattle.rules.proofs.Round.{at_in_range, round}
 use Rattle.rules.specs.Update.{updated}
 use Rattle.rules.specs.Reduce.{vertex_finding}
 use Rattle.rules.specs.declared.instruction.Instruction.{Instruction}
-use Rattle.rules.specs.declared.instruction.Instruction.TheVariants.{SetSpeed, SetBlossom, AddDefectVertex, FindObstacle, Grow, LoadDefectsExternal}
-use Rattle.rules.specs.contracts.instruction.Instruction as Instructions
+use Rattle.rules.specs.declared.instruction.Instruction.TheVariants.{FindObstacle}
 use Rattle.rules.specs.declared.refusal.Refusal.{Refusal}
 use Rattle.rules.specs.declared.finding.Finding.{Finding}
-use Rattle.rules.specs.declared.finding.Response.{Response}
+use Rattle.rules.specs.Types.{Response}
 use Rattle.places.specs.Wired.{Wired}
 use Rattle.comb_offloading.specs.Offload.{stalls_edge, by_units, blank_vertices, blank_edges}
 use Rattle.comb_settle.specs.Settled.{updated_word, shadow_word}
 use Rattle.comb_settle.specs.Wiring.{updated_by, shadows_by}
 use Rattle.comb_vertex.specs.Execution.{execution, executed_into, executed_all, paint_over}
-use Rattle.comb_vertex.specs.declared.execute.Execution.{Execution}
-use Rattle.comb_vertex.specs.declared.execute.Execution.TheVariants.{Done}
 use Rattle.comb_cycle.specs.Responses.{responded}
 use Rattle.comb_cycle.specs.Stages.{Ran, Beyond, Settles}
 
@@ -43,12 +31,12 @@ module _ (es rs fs us : List ℕ) (ne nu : ℕ) (out blank : List Bool) where
       → out ≡ stalled_edges es rs fs ne us nu
   edges_made p b = rw (p, b) (blank_edges es rs fs ne us nu)
 
-pub ran : (vs rs xs next : List ℕ) (stalled : List Bool) (i : Instruction) (nv : ℕ) (e : Execution) → e ≡ execution (execute_refusal vs rs stalled i nv)
+pub ran : (vs rs xs next : List ℕ) (stalled : List Bool) (i : Instruction) (nv : ℕ) (e : Result Unit Refusal) → e ≡ execution (execute_refusal vs rs stalled i nv)
     → xs ≡ executed_into vs rs stalled i nv next → next ≡ rs → Ran vs rs stalled i nv e xs
 ran vs rs xs next stalled i nv e p q n = record { answer = p; registers = λ h. rw (q, n) (executed_all vs rs stalled i nv h) }
 
 -- FindObstacle leaves each vertex, and so the table
-find_ran : (vs rs : List ℕ) (stalled : List Bool) (nv : ℕ) → Ran vs rs stalled FindObstacle nv Done rs
+find_ran : (vs rs : List ℕ) (stalled : List Bool) (nv : ℕ) → Ran vs rs stalled FindObstacle nv (Ok tt) rs
 unfolding execute_refusal executed execute_at execute at
 find_ran vs rs stalled nv = record {
   answer = ap execution (sym (first_has (λ (o : Option Refusal). o ≡ none) refl nv _ (λ v l. refl)));
@@ -58,19 +46,8 @@ find_ran vs rs stalled nv = record {
   };
 }
 
-module _ (vs rs xs : List ℕ) (stalled : List Bool) (nv : ℕ) (same : xs ≡ rs) where
-  pub finds : (i : Instruction) → OneOf (3 ∷ []) (tag_of Instructions.the_type i) → Ran vs rs stalled i nv Done xs
-  finds (SetSpeed n s) t = absurd (omega arith)
-  finds (SetBlossom n b) t = absurd (omega arith)
-  finds (AddDefectVertex v n) t = absurd (omega arith)
-  finds FindObstacle t = rw same (find_ran vs rs stalled nv)
-  finds (Grow l) t = absurd (omega arith)
-  finds (LoadDefectsExternal l) t = absurd (omega arith)
-
--- the edges in use are at most 1,024
-pub edges_fit : {es ps ds : List ℕ} {ne : ℕ} → Wired es ne ps ds → ne ≤ 1_024
-unfolding edges_in_use
-edges_fit {es} w = omega (arith, w.used, w.small, leading_le (fits es) w.limit)
+pub finds : (vs rs xs : List ℕ) (stalled : List Bool) (nv : ℕ) (i : Instruction) → i ≡ FindObstacle → xs ≡ rs → Ran vs rs stalled i nv (Ok tt) xs
+finds vs rs xs stalled nv i is same = rw (is, same) (find_ran vs rs stalled nv)
 
 pub settles : (vs es fs xs rs ys ss ps ds : List ℕ) (stalled : List Bool) (ne nv : ℕ) (f : Finding) (r : Response)
     → ys ≡ paint nv (updated_word es fs xs ps ds) rs → ss ≡ paint nv (shadow_word vs es fs xs ps ds stalled) xs

@@ -1,8 +1,6 @@
 -- Reports form a semilattice: an odd edge outdoes all, the lesser of two edge indices and the least of two lengths mind neither order nor
 -- repetition, and no limit changes nothing.
-use Prim.Native.Nat.{ℕ}
-use mathlib.Core.Path.{◌≡◌, refl, ap}
-use native.Mathlib.Omega.{arith}
+use Rattle.std.proofs.Common.{ℕ, ◌≡◌, refl, ap, arith}
 use Rattle.laws.specs.Semilattice.{Semilattice}
 use Rattle.interface.proofs.Join.{least_assoc, least_comm, least_idem, least_unit}
 use Rattle.comb_cycle.specs.Strongest.{silent, stronger}

@@ -5,8 +5,8 @@ use Rattle.laws.specs.Fold.{up_to}
 use Rattle.rules.specs.Respond.{edge_response}
 use Rattle.rules.specs.Reduce.{reduce, reported, some_odd}
 use Rattle.rules.specs.declared.finding.Finding.{Finding}
-use Rattle.rules.specs.declared.finding.Response.{Response}
-use Rattle.rules.specs.declared.finding.Response.TheVariants.{Reports, OddRemaining}
+use Rattle.rules.specs.Types.{Response, odd_remaining}
+use Rattle.std.specs.Prelude.{Err, Ok}
 
 module _ (es fs ys ss : List ℕ) where
   -- the finding of the first n edges
@@ -14,4 +14,4 @@ module _ (es fs ys ss : List ℕ) where
   finding_to start n = up_to (λ e f. reduce f (reported (edge_response es fs ys ss e))) start n
 
   unfoldable pub responded : ℕ → Finding → Response
-  responded n start = pick (some_odd es fs ys ss n) OddRemaining (Reports (finding_to start n))
+  responded n start = pick (some_odd es fs ys ss n) (Err odd_remaining) (Ok (finding_to start n))

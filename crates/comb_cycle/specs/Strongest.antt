@@ -10,8 +10,8 @@ use Rattle.rules.specs.Respond.{less, respond, edge_response}
 use Rattle.rules.specs.declared.finding.Length.TheVariants.{NoLimit}
 use Rattle.rules.specs.declared.finding.Finding.{Finding}
 use Rattle.rules.specs.declared.finding.Finding.TheVariants.{GrowLength, Conflict}
-use Rattle.rules.specs.declared.finding.Response.{Response}
-use Rattle.rules.specs.declared.finding.Response.TheVariants.{Reports, OddRemaining}
+use Rattle.rules.specs.Types.{Response, odd_remaining}
+use Rattle.std.specs.Prelude.{Err, Ok}
 use Rattle.comb_cycle.specs.declared.report.Report.{Report}
 use Rattle.comb_cycle.specs.declared.report.Report.TheVariants.{Odd, Conflict as ConflictAt, Length as LengthOf}
 
@@ -35,9 +35,9 @@ strongest_of f n = joined stronger silent f n
 
 -- what edge e reports with a response
 abbrev pub report_of : ℕ → Response → Report
-report_of e (Reports (GrowLength l)) = LengthOf l
-report_of e (Reports (Conflict a b)) = ConflictAt (record { 0 = e })
-report_of e OddRemaining = Odd
+report_of e (Ok (GrowLength l)) = LengthOf l
+report_of e (Ok (Conflict a b)) = ConflictAt (record { 0 = e })
+report_of e (Err _) = Odd
 
 module _ (fs ys ss : List ℕ) where
   -- what is heard at v of edge e, whose far end is w
@@ -58,11 +58,11 @@ module _ (es fs ys ss : List ℕ) where
 
   -- what a report says
   abbrev pub answer : Report → Response
-  answer Odd = OddRemaining
+  answer Odd = Err odd_remaining
   answer (ConflictAt e) = edge_response es fs ys ss e.0
-  answer (LengthOf l) = Reports (GrowLength l)
+  answer (LengthOf l) = Ok (GrowLength l)
 
 -- a response, with what was found before
 abbrev pub reduced_with : Finding → Response → Response
-reduced_with start (Reports f) = Reports (reduce start f)
-reduced_with start OddRemaining = OddRemaining
+reduced_with start (Ok f) = Ok (reduce start f)
+reduced_with start (Err _) = Err odd_remaining

@@ -1,72 +1,57 @@
 // One instruction's cycle on lent tables: stages 1 to 8.
-ghost use Rattle.std.specs.Prelude.{false, ◌≡◌, replicate};
-ghost use Rattle.comb_cycle.specs.Cycled.{cycled, cycled_as, so_far};
-ghost use Rattle.board.specs.Board.{graph_on, Laid};
+ghost use Rattle.std.specs.Prelude.{◌≡◌};
+ghost use Rattle.board.specs.Board.{graph_on};
+ghost use Rattle.rules.specs.Instruct.{step};
 
-use crate::respond::respond;
+use crate::settled::Settled;
 use crate::stages;
 use board::Board;
+use comb_edge::stage::Stage;
 use comb_settle::settle;
-use comb_vertex::execute::Execution;
-use comb_vertex::no_vertices;
-use rules::finding::{Answer, Finding, Length, Response};
+use rules::finding::Finding;
 use rules::instruction::Instruction;
 use rules::refusal::Refusal;
-use rules::tables::{Registers, Stalls, Weights};
-
-// A pair list that is empty.
-pub fn no_flags() -> Stalls
-    ensures { result ≡ replicate 1_024 false }
-{
-    [false; 1024]
-}
-
-// What is answered after stage 3: its refusal, or that nothing bounds the length yet.
-fn so_far(execution: Execution) -> Answer
-    ensures { result ≡ so_far execution }
-{
-    match execution {
-        Execution::Refused(refusal) => Answer::Refused(refusal),
-        Execution::Done => Answer::Found(Finding::GrowLength(Length::NoLimit)),
-    }
-}
+use rules::state::State;
+use rules::tables::{Stalls, VertexFlags, no_flags};
 
 // Units stall (stages 1 and 2), vertices execute (3) and settle, reporting (4 to 7), edges report, and all is reduced (7 and 8). A cycle that is
-// refused leaves registers and flags as they were.
-pub fn run_cycle<'a>(
-    board: &'a Board,
-    weights: &'a Weights,
-    registers: &mut Registers,
-    stalled: &mut Stalls,
+// refused leaves the state as it was.
+#[tactic(auto, using(crate::proofs::Cycling::cycles))]
+pub fn run_cycle(
+    board: &Board,
+    state: &mut State,
     instruction: Instruction,
-) -> Answer
-    requires { Laid board.now }
-    ensures { cycled_as registers.new stalled.new result ≡ cycled (graph_on board.now) registers.old weights.now stalled.old instruction }
+) -> Result<Finding, Refusal>
+    ensures { record { state = state.new; answer = result } ≡ step (graph_on board.now.table) state.old instruction }
 {
-    let mut still = no_vertices();
-    let mut held = no_flags();
-    stages::stall_units(board, weights, registers, &mut still, &mut held);
-    let before = *registers;
-    let mut executed = before;
-    let execution = stages::execute_all(board, &before, &still, instruction, &mut executed);
-    let Execution::Done = execution else {
-        return so_far(execution);
-    };
-    let mut shadows = executed;
-    let finding = settle(
+    let before = state.registers;
+    let stage = Stage {
         board,
-        weights,
-        &before,
+        weights: &state.weights,
+        before: &before,
+    };
+    let mut still: VertexFlags = no_flags();
+    let mut held: Stalls = no_flags();
+    stages::stall_units(&stage, &mut still, &mut held);
+    let mut executed = before;
+    stages::execute_all(&stage, &still, instruction, &mut executed)?;
+    let mut shadows = executed;
+    let found = settle(
+        &stage,
         &executed,
         &still,
-        registers,
+        &mut state.registers,
         &mut shadows,
     );
-    let response = respond(board, weights, &before, registers, &shadows, finding);
-    let Response::Reports(found) = response else {
-        *registers = before;
-        return Answer::Refused(Refusal::OddRemaining);
+    let settled = Settled {
+        stage,
+        registers: &state.registers,
+        shadows: &shadows,
     };
-    stages::keep_flags(board::nu(board), &held, stalled);
-    Answer::Found(found)
+    let Ok(finding) = settled.respond(found) else {
+        state.registers = before;
+        return Err(Refusal::OddRemaining);
+    };
+    stages::keep_flags(board::nu(&board.table), &held, &mut state.stalled);
+    Ok(finding)
 }

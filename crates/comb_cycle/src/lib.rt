@@ -6,5 +6,6 @@ mod growing;
 mod rank;
 mod report;
 mod respond;
+mod settled;
 mod stages;
 mod strongest;

@@ -1,107 +1,85 @@
 // A report as one number, its rank: the lesser is the stronger, so that a walk over the edges carries and compares numbers alone.
 // specs/Rank.antt says which report a rank is.
-ghost use Rattle.std.specs.Prelude.{◌≡◌, ◌<◌, min};
-ghost use Rattle.rules.specs.Registers as Registers;
+ghost use Rattle.std.specs.Prelude.{◌≡◌, ◌<◌};
 ghost use Rattle.places.specs.Places.{edge_in, far_in};
 ghost use Rattle.comb_cycle.specs.On.{report_from_on};
 ghost use Rattle.comb_cycle.specs.Rank.{report_in};
 ghost use Rattle.comb_cycle.specs.Strongest as Strongest;
 
 use crate::report::Report;
-use board::Board;
-use comb_edge::fetch_weight;
+use crate::settled::Settled;
+use board::PlaceWord;
 use comb_edge::length::less;
 use comb_edge::respond::{is_idle, meeting};
-use rules::finding::{Finding, Length, Response};
+use rules::finding::{Finding, Length, OddRemaining};
 use rules::index::{EdgeIndex, VertexIndex};
-use rules::registers::view;
-use rules::tables::{Registers, Weights};
+use rules::registers::at;
 
 // No limit: the weakest report has the greatest rank.
 pub(crate) const NO_LIMIT: u64 = 12_884_901_888;
 
+#[tactic(auto, using(crate::proofs::Ranks::ranks))]
 fn rank_of_length(length: Length) -> u64
     ensures { report_in result ≡ Report.Length length }
 {
     match length {
         Length::NoLimit => NO_LIMIT,
-        Length::Ahead(n) => 8_589_934_592 + n as u64,
-        Length::Behind(n) => 8_589_934_591 - n as u64,
+        Length::Ahead(n) => 8_589_934_592 + u64::from(n),
+        Length::Behind(n) => 8_589_934_591 - u64::from(n),
     }
 }
 
 // The rank of what edge e reports with a response.
-fn rank_of(e: EdgeIndex, response: Response) -> u64
+#[tactic(auto, using(crate::proofs::Ranks::ranks))]
+fn rank_of(e: EdgeIndex, response: Result<Finding, OddRemaining>) -> u64
     ensures { report_in result ≡ Strongest.report_of e.0 response }
 {
     match response {
-        Response::OddRemaining => 0,
-        Response::Reports(finding) => match finding {
-            Finding::Conflict(_, _) => 4_294_901_760 + e.0 as u64,
-            Finding::GrowLength(length) => rank_of_length(length),
-        },
+        Err(OddRemaining) => 0,
+        Ok(Finding::Conflict(_, _)) => 4_294_901_760 + u64::from(e.0),
+        Ok(Finding::GrowLength(length)) => rank_of_length(length),
     }
 }
 
-fn grown_at(registers: &Registers, v: u8) -> u32
-    ensures { (result ≡ (Registers.at registers.now v).grown) × (result < 67_108_864) }
-{
-    view(registers[v as usize]).grown
-}
-
-// The rank of what is heard at v of the edge at one of its places: what v shows and has grown is then looked up once for all of them.
-pub(crate) fn rank_at<'a>(
-    board: &'a Board,
-    weights: &'a Weights,
-    before: &'a Registers,
-    registers: &'a Registers,
-    shadows: &'a Registers,
-    v: u8,
-    place: u32,
-) -> u64
-    ensures { report_in result ≡ report_from_on board.now before.now weights.now registers.now shadows.now v (edge_in place) (far_in place) }
-{
-    let e = (place % 1_024) as u16;
-    let w = (place / 1_024 % 256) as u8;
-    let near = view(shadows[v as usize]);
-    let far = view(shadows[w as usize]);
-    if is_idle(near, far) {
-        return rank_of_length(Length::NoLimit);
+impl<'a> Settled<'a> {
+    // The rank of what is heard at v of the edge at one of its places: what v shows and has grown is then looked up once for all of them.
+    #[tactic(auto, using(crate::proofs::Sides::hearing), unfolding(rules::specs::Registers::at))]
+    pub(crate) fn rank_at(&self, v: u8, place: PlaceWord) -> u64
+        ensures { report_in result ≡ report_from_on self.now v (edge_in place.0) (far_in place.0) }
+    {
+        let e = place.edge();
+        let w = place.far();
+        let near = at(self.shadows, v);
+        let far = at(self.shadows, w);
+        if is_idle(near, far) {
+            return rank_of_length(Length::NoLimit);
+        }
+        let grown = at(self.registers, v).grown + at(self.registers, w).grown;
+        let remaining = less(self.stage.fetch().weight(e), grown);
+        let response = meeting(
+            near,
+            far,
+            VertexIndex(u16::from(v)),
+            VertexIndex(u16::from(w)),
+            remaining,
+        );
+        rank_of(EdgeIndex(e as u16), response)
     }
-    let remaining = less(
-        fetch_weight(e as usize, board, weights, before),
-        grown_at(registers, v) + grown_at(registers, w),
-    );
-    let response = meeting(
-        near,
-        far,
-        VertexIndex(v as u16),
-        VertexIndex(w as u16),
-        remaining,
-    );
-    rank_of(EdgeIndex(e), response)
 }
 
-pub(crate) fn lesser(a: u64, b: u64) -> u64
-    ensures { result ≡ min a b }
-{
-    if b < a { b } else { a }
-}
-
+#[tactic(auto, unfolding(crate::specs::Rank::report_in, laws::specs::Choice::pick))]
 pub(crate) fn report_in(rank: u64) -> Report
     ensures { result ≡ report_in rank }
 {
-    if rank < 4_294_901_760 {
-        return Report::Odd;
+    match rank {
+        ..4_294_901_760 => Report::Odd,
+        4_294_901_760..4_294_967_296 => {
+            Report::Conflict(EdgeIndex((rank - 4_294_901_760) as u16))
+        }
+        4_294_967_296..8_589_934_592 => {
+            Report::Length(Length::Behind((8_589_934_591 - rank) as u32))
+        }
+        8_589_934_592..NO_LIMIT => { Report::Length(Length::Ahead((rank - 8_589_934_592) as u32)) }
+        NO_LIMIT.. => Report::Length(Length::NoLimit),
     }
-    if rank < 4_294_967_296 {
-        return Report::Conflict(EdgeIndex((rank - 4_294_901_760) as u16));
-    }
-    if rank < 8_589_934_592 {
-        return Report::Length(Length::Behind((8_589_934_591 - rank) as u32));
-    }
-    if rank < NO_LIMIT {
-        return Report::Length(Length::Ahead((rank - 8_589_934_592) as u32));
-    }
-    Report::Length(Length::NoLimit)
 }

@@ -1,9 +1,6 @@
 -- One entry of the table of fetch weights: n is the number of edges in use, below which an edge's own words tell it, and from which it is 0.
-use Prim.Native.Nat.{ℕ, zero, suc, ◌≤◌, ◌<◌, min}
-use mathlib.Core.Path.{◌≡◌, refl, sym, ◌∙◌}
-use mathlib.Core.List.{List}
-use native.Mathlib.Omega.{arith}
-use lib.ListN.{get_or, replicate, length-replicate}
+use Rattle.std.proofs.Common.{ℕ, zero, suc, ◌≤◌, ◌<◌, min, ◌≡◌, refl, sym, ◌∙◌, List, arith, get_or, replicate}
+use lib.ListN.{length-replicate}
 use Rattle.laws.specs.Table.{paint, paint_from, get_or_painted}
 use Rattle.rules.specs.Fetch.{fetch_weight, fetched}
 use Rattle.comb_edge.specs.Edge.{weight_by}
@@ -30,3 +27,5 @@ module _ (es rs ws : List ℕ) (m e : ℕ) {n : ℕ} (p : n ≡ min m 1_024) whe
   pub fetched_beyond : n ≤ e → 0 ≡ get_or (fetched es rs ws (min m 1_024)) e 0
   unfolding fetched paint
   fetched_beyond l = sym (unpainted (fetch_weight es rs ws) 0 (min m 1_024) 1_024 e (omega arith))
+
+pub ruleset fetches = (fetched_in_use, fetched_beyond)

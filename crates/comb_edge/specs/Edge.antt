@@ -5,7 +5,7 @@ use Rattle.laws.specs.Choice.{◌and◌, ◌or◌, pick}
 use Rattle.rules.specs.Registers.{at, same_node}
 use Rattle.rules.specs.Respond.{less, joint, meeting}
 use Rattle.rules.specs.declared.finding.Length.{Length}
-use Rattle.rules.specs.declared.finding.Response.{Response}
+use Rattle.rules.specs.Types.{Response}
 
 module _ (w : ℕ) where
   -- the end that is not v

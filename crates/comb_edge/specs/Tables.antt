@@ -1,10 +1,9 @@
 -- An edge's own words tell all that the tables tell of it: each definition over the tables is the one by the edge's entries.
-use Rattle.std.specs.Prelude.{ℕ, ◌≡◌, List, get_or}
+use Rattle.std.specs.Prelude.{ℕ, ◌≡◌, List, Ok, get_or}
 use Rattle.std.proofs.Math.Path.{refl}
 use Rattle.laws.specs.Choice.{pick}
 use Rattle.rules.specs.declared.finding.Finding.TheVariants.{GrowLength}
 use Rattle.rules.specs.declared.finding.Length.TheVariants.{NoLimit}
-use Rattle.rules.specs.declared.finding.Response.TheVariants.{Reports}
 use Rattle.rules.specs.Graph.{left_of, right_of, condition_of, far_end}
 use Rattle.rules.specs.Fetch.{reduced, fetch_weight, tight, counted_tight}
 use Rattle.rules.specs.Respond.{remaining, respond, edge_response}
@@ -37,6 +36,6 @@ module _ (es : List ℕ) (e : ℕ) where
     remaining_by_lem fs = refl
 
     pub response_by : (fs ss : List ℕ)
-        → edge_response es fs rs ss e ≡ pick (idle_by (get_or es e 0) ss) (Reports (GrowLength NoLimit)) (meeting_by (get_or es e 0) rs ss (get_or fs e 0))
+        → edge_response es fs rs ss e ≡ pick (idle_by (get_or es e 0) ss) (Ok (GrowLength NoLimit)) (meeting_by (get_or es e 0) rs ss (get_or fs e 0))
     unfolding edge_response respond remaining left_of right_of idle_by meeting_by remaining_by grown_by
     response_by fs ss = refl

@@ -1,30 +1,26 @@
 // Lengths, and the joint speed that divides them.
-ghost use Rattle.std.specs.Prelude.{◌≡◌, ◌≤◌};
-ghost use Rattle.laws.specs.Fold.{bit};
-ghost use Rattle.rules.specs.Registers.{growing};
+ghost use Rattle.std.specs.Prelude.{◌≡◌};
 ghost use Rattle.rules.specs.Respond as Respond;
 
 use rules::finding::Length;
 use rules::instruction::CompactGrowState;
 
 // a less b
+#[tactic(auto, using(laws::specs::Tests::tests), unfolding(rules::specs::Respond::less))]
 pub fn less(a: u32, b: u32) -> Length
     ensures { result ≡ Respond.less a b }
 {
     if b <= a {
-        return Length::Ahead(a - b);
+        Length::Ahead(a - b)
+    } else {
+        Length::Behind(b - a)
     }
-    Length::Behind(b - a)
 }
 
 pub(crate) fn is_zero(length: Length) -> bool
     ensures { result ≡ Respond.is_zero length }
 {
-    match length {
-        Length::NoLimit => false,
-        Length::Ahead(n) => n == 0,
-        Length::Behind(n) => n == 0,
-    }
+    matches!(length, Length::Ahead(0) | Length::Behind(0))
 }
 
 pub(crate) fn is_odd(length: Length) -> bool
@@ -32,8 +28,7 @@ pub(crate) fn is_odd(length: Length) -> bool
 {
     match length {
         Length::NoLimit => false,
-        Length::Ahead(n) => n % 2 == 1,
-        Length::Behind(n) => n % 2 == 1,
+        Length::Ahead(n) | Length::Behind(n) => n % 2 == 1,
     }
 }
 
@@ -47,22 +42,12 @@ pub(crate) fn half(length: Length) -> Length
     }
 }
 
-// 1 for Grow, else 0.
-fn growth(speed: CompactGrowState) -> u32
-    ensures { (result ≡ bit (growing speed)) × (result ≤ 1) }
-{
-    if speed.is_growing() { 1 } else { 0 }
-}
-
 // The joint speed of two ends where it is positive, else 0. A sum, since which end grows is hard to predict.
 pub(crate) fn joint(left: CompactGrowState, right: CompactGrowState) -> u32
     ensures { result ≡ Respond.joint left right }
 {
-    if left.is_shrinking() {
+    if left.is_shrinking() || right.is_shrinking() {
         return 0;
     }
-    if right.is_shrinking() {
-        return 0;
-    }
-    growth(left) + growth(right)
+    u32::from(left.is_growing()) + u32::from(right.is_growing())
 }

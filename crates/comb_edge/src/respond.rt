@@ -1,11 +1,13 @@
 // Stage 7: what an edge reports of the shadows at its ends.
+#![tactic(auto, using(laws::specs::Tests::tests), unfolding(rules::specs::Respond::available, rules::specs::Respond::shown, rules::specs::Respond::limit, rules::specs::Respond::meeting))]
+
 ghost use Rattle.std.specs.Prelude.{◌≡◌, not, eqb};
 ghost use Rattle.laws.specs.Choice.{◌and◌, ◌or◌};
 ghost use Rattle.rules.specs.Registers.{same_node};
 ghost use Rattle.rules.specs.Respond as Respond;
 
 use crate::length::{half, is_odd, is_zero, joint};
-use rules::finding::{Finding, Length, Node, Response, Side};
+use rules::finding::{Finding, Length, OddRemaining, Side};
 use rules::index::{NodeIndex, VertexIndex};
 use rules::registers::VertexRegisters;
 
@@ -13,64 +15,47 @@ use rules::registers::VertexRegisters;
 fn is_available(shadow: VertexRegisters) -> bool
     ensures { result ≡ Respond.available shadow }
 {
-    if shadow.node.0 == 65_535 {
-        return !shadow.is_virtual;
-    }
-    false
+    shadow.node == NodeIndex(65_535) && !shadow.is_virtual
 }
 
 // A node as a finding shows it: neither no node nor the virtual node is a number.
-fn shown(node: NodeIndex) -> Node
+fn shown(node: NodeIndex) -> Option<NodeIndex>
     ensures { result ≡ Respond.shown node }
 {
-    if node.0 == 65_535 {
-        return Node::Absent;
+    match node {
+        NodeIndex(65_534 | 65_535) => None,
+        _ => Some(node),
     }
-    if node.0 == 65_534 {
-        return Node::Absent;
-    }
-    Node::Number(node)
 }
 
 fn side(shadow: VertexRegisters, vertex: VertexIndex) -> Side
     ensures { result ≡ Respond.side shadow vertex.0 }
 {
-    let node = shown(shadow.node);
-    let touch = shown(shadow.root);
     Side {
-        node,
-        touch,
+        node: shown(shadow.node),
+        touch: shown(shadow.root),
         vertex,
     }
 }
 
 // "16: odd remaining at joint speed 2"; else "remaining / joint speed"
-fn limit(speed: u32, remaining: Length) -> Response
+fn limit(speed: u32, remaining: Length) -> Result<Finding, OddRemaining>
     ensures { result ≡ Respond.limit speed remaining }
 {
     if speed != 2 {
-        return Response::Reports(Finding::GrowLength(remaining));
+        return Ok(Finding::GrowLength(remaining));
     }
     if is_odd(remaining) {
-        return Response::OddRemaining;
+        return Err(OddRemaining);
     }
-    Response::Reports(Finding::GrowLength(half(remaining)))
+    Ok(Finding::GrowLength(half(remaining)))
 }
 
 // "0 with neither end available"
 fn is_conflict(left: VertexRegisters, right: VertexRegisters, remaining: Length) -> bool
     ensures { result ≡ (Respond.is_zero remaining and not (Respond.available left) and not (Respond.available right)) }
 {
-    if is_zero(remaining) {
-        if is_available(left) {
-            return false;
-        }
-        if is_available(right) {
-            return false;
-        }
-        return true;
-    }
-    false
+    is_zero(remaining) && !is_available(left) && !is_available(right)
 }
 
 // What the shadows of the ends v and w report where they are not idle, with what remains between them.
@@ -80,25 +65,18 @@ pub fn meeting(
     v: VertexIndex,
     w: VertexIndex,
     remaining: Length,
-) -> Response
+) -> Result<Finding, OddRemaining>
     ensures { result ≡ Respond.meeting left right v.0 w.0 remaining }
 {
     if is_conflict(left, right, remaining) {
-        return Response::Reports(Finding::Conflict(side(left, v), side(right, w)));
+        return Ok(Finding::Conflict(side(left, v), side(right, w)));
     }
-    let a = left.speed;
-    let b = right.speed;
-    limit(joint(a, b), remaining)
+    limit(joint(left.speed, right.speed), remaining)
 }
 
 // "equal shadow nodes, or joint speed not positive"
 pub fn is_idle(left: VertexRegisters, right: VertexRegisters) -> bool
     ensures { result ≡ (same_node left.node right.node or eqb (Respond.joint left.speed right.speed) 0) }
 {
-    if left.node.0 == right.node.0 {
-        return true;
-    }
-    let a = left.speed;
-    let b = right.speed;
-    joint(a, b) == 0
+    left.node == right.node || joint(left.speed, right.speed) == 0
 }

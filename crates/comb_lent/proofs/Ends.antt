@@ -1,100 +1,86 @@
--- How each call on lent tables ends, over variables.
-use Prim.Native.Nat.{ℕ, suc, min, ◌≤◌, ◌<◌}
-use mathlib.Core.Path.{◌≡◌, sym, ap, ◌∙◌}
-use mathlib.Core.Bool.{Bool, true, false}
-use mathlib.Core.List.{List}
-use native.Mathlib.Omega.{arith}
-use borrow.Author.Tests.{lt-ltb, le-ltb}
-use lib.ListN.{replicate}
+-- How each call ends, over variables. What stands on a board is all in use.
+use Rattle.std.specs.Prelude.{ℕ, suc, ◌<◌, ◌≤◌, min, ◌≡◌, Bool, true, false, List, replicate, Err, Ok}
+use Rattle.std.proofs.Common.{sym, ap, ◌∙◌, lt-ltb, le-ltb, arith}
 use Rattle.laws.specs.Choice.{pick}
 use Rattle.rules.specs.Graph.{in_use}
-use Rattle.rules.specs.State.{fresh_registers, fresh_state, reset}
+use Rattle.rules.specs.State.{with_maximum, fresh_registers, fresh_state, reset}
 use Rattle.rules.specs.Words.{in_bounds, unpacked}
-use Rattle.rules.specs.Instruct.{barred, instruct, word_answer, word_cycle, carried_out, word_run}
-use Rattle.rules.specs.Search.{search, search_on, search_to}
+use Rattle.rules.specs.Instruct.{refused, step, barred, instruct, word_answer, word_cycle, carried_out, word_run}
+use Rattle.rules.specs.Search.{begun, walked, told, search, search_on, search_to}
 use Rattle.rules.specs.declared.graph.Graph.{Graph}
 use Rattle.rules.specs.declared.state.Cycle.{Cycle}
 use Rattle.rules.specs.declared.state.Searched.{Searched}
+use Rattle.rules.specs.declared.state.State.{State}
+use Rattle.rules.specs.Types.{Answer, Unpacked, WordAnswer}
 use Rattle.rules.specs.declared.finding.Finding.{Finding}
-use Rattle.rules.specs.declared.finding.Answer.{Answer}
-use Rattle.rules.specs.declared.finding.Answer.TheVariants.{Found, Refused}
-use Rattle.rules.specs.declared.finding.WordAnswer.{WordAnswer}
-use Rattle.rules.specs.declared.finding.WordAnswer.TheVariants as W
+use Rattle.rules.specs.declared.finding.Carried.TheVariants as W
 use Rattle.rules.specs.declared.finding.Sought.TheVariants.{NotBegun}
 use Rattle.rules.specs.declared.instruction.Instruction.{Instruction}
-use Rattle.rules.specs.declared.instruction.Unpacked.{Unpacked}
-use Rattle.rules.specs.declared.instruction.Unpacked.TheVariants as U
+use Rattle.rules.specs.declared.instruction.Asked.TheVariants as U
 use Rattle.rules.specs.declared.refusal.Refusal.{Refusal}
 use Rattle.rules.specs.declared.refusal.Refusal.TheVariants.{OutOfBounds}
-use Rattle.comb_cycle.specs.Cycled.{state_of, cycled_as, cycled}
 use Rattle.board.specs.Board.{vertices_on, defaults_on, nv_on, graph_on, Laid}
-use Rattle.comb_search.specs.Seek.{seek, searched_as}
 use Rattle.comb_lent.specs.Whole.{all_in_use}
-use Rattle.comb_lent.specs.Calls.{worded_as, of_word, instructed, worded, instruct_is}
 
-module _ (b : List ℕ) (laid : Laid b) where
-  abbrev g : Graph
-  g = graph_on b
+-- ---- an instruction
 
-  all : in_use g ≡ g
-  all = all_in_use b laid
+module _ (b : List ℕ) (s : State) (i : Instruction) (h : Bool) (t : h ≡ in_bounds i) where
+  pub ends_out : h ≡ false → refused s OutOfBounds ≡ instruct (graph_on b) s i
+  unfolding instruct barred pick
+  ends_out e = rw (← t, e)
 
-  -- ---- an instruction
+  pub ends_in : Laid b → (c : Cycle) → h ≡ true → c ≡ step (graph_on b) s i → c ≡ instruct (graph_on b) s i
+  unfolding instruct barred pick
+  ends_in laid c e k = rw (← t, e, all_in_use b laid) k
 
-  module _ (rs ws : List ℕ) (stalled : List Bool) (i : Instruction) (h : Bool) (t : h ≡ in_bounds i) where
-    pub ends_out : h ≡ false → cycled_as rs stalled (Refused OutOfBounds) ≡ instructed g rs ws stalled i
-    unfolding instructed instruct barred pick
-    ends_out e = rw (← t, e)
+-- ---- a search
 
-    pub ends_in : (rs' : List ℕ) (stalled' : List Bool) (a : Answer) → h ≡ true → cycled_as rs' stalled' a ≡ cycled g rs ws stalled i → cycled_as rs' stalled' a ≡ instructed g rs ws stalled i
-    unfolding instructed instruct barred pick cycled
-    ends_in rs' stalled' a e k = rw (← t, e, all) k
-
-  -- ---- a search
-
-  module _ (rs ws : List ℕ) (stalled : List Bool) (m : ℕ) (x : Searched) where
-    pub ends_sought : x ≡ seek g (suc m) (state_of rs ws stalled m) 0 0 → x ≡ search_on g (state_of rs ws stalled m)
-    unfolding search_on search seek
-    ends_sought e = rw all e
+pub ends_sought : (b : List ℕ) (s : State) (x : Searched) → Laid b → x ≡ told (walked (graph_on b) (suc s.maximum) (begun s)) → x ≡ search_on (graph_on b) s
+unfolding search_on search
+ends_sought b s x laid e = rw (all_in_use b laid) e
 
 -- "read as signed"
-module _ (g : Graph) (rs ws : List ℕ) (stalled : List Bool) (m n : ℕ) where
-  pub ends_to : (x : Searched) → n < 2_147_483_648 → x ≡ search_on g (state_of rs ws stalled n) → x ≡ search_to g (state_of rs ws stalled m) n
+module _ (g : Graph) (s : State) (n : ℕ) where
+  pub ends_to : (x : Searched) → n < 2_147_483_648 → x ≡ search_on g (with_maximum n s) → x ≡ search_to g s n
   unfolding search_to pick
   ends_to x l e = rw (lt-ltb n 2_147_483_648 l) e
 
-  pub ends_negative : 2_147_483_648 ≤ n → searched_as rs ws stalled m (NotBegun OutOfBounds) ≡ search_to g (state_of rs ws stalled m) n
+  pub ends_negative : 2_147_483_648 ≤ n → record { state = s; answer = NotBegun OutOfBounds } ≡ search_to g s n
   unfolding search_to pick
   ends_negative l = rw (le-ltb n 2_147_483_648 l)
 
 -- ---- a word
 
-pub word_found : (a : Answer) (f : Finding) → a ≡ Found f → W.Found f ≡ word_answer a
-word_found a f e = rw e
+module _ (g : Graph) (s : State) (w : ℕ) (u : Unpacked) (h : u ≡ unpacked w) where
+  carried_as : (v : Unpacked) → u ≡ v → carried_out g s v ≡ word_run g s w
+  unfolding word_run
+  carried_as v e = rw (← h, e)
 
-pub word_refused : (a : Answer) (r : Refusal) → a ≡ Refused r → W.Refused r ≡ word_answer a
-word_refused a r e = rw e
+  pub ends_refused : (r : Refusal) → u ≡ Err r → {a : WordAnswer} → a ≡ Err r → record { state = s; answer = a } ≡ word_run g s w
+  ends_refused r e p = rw p (carried_as (Err r) e)
 
-module _ (b rs ws : List ℕ) (stalled : List Bool) (w : ℕ) (u : Unpacked) (t : u ≡ unpacked w) where
-  abbrev whole : Graph
-  whole = graph_on b
+  module _ (i : Instruction) (e : u ≡ Ok (U.Says i)) (t : State) (a : Answer) (c : record { state = t; answer = a } ≡ instruct g s i) where
+    said : record { state = t; answer = word_answer a } ≡ word_run g s w
+    said = ap (λ (x : Cycle). word_cycle x) c ∙ carried_as (Ok (U.Says i)) e
 
-  carried_as : (v : Unpacked) → u ≡ v → worded whole rs ws stalled w ≡ of_word (carried_out whole (state_of rs ws stalled 0) v)
-  unfolding worded word_run
-  carried_as v e = rw (← t, e)
+    pub ends_found : (f : Finding) → a ≡ Ok f → record { state = t; answer = Ok (W.Found f) } ≡ word_run g s w
+    ends_found f q = rw q at said
 
-  pub ends_refused : (r : Refusal) → u ≡ U.Refused r → worded_as rs ws stalled (W.Refused r) ≡ worded whole rs ws stalled w
-  ends_refused r e = sym (carried_as (U.Refused r) e)
+    pub ends_cut : (r : Refusal) → a ≡ Err r → {b : WordAnswer} → b ≡ Err r → record { state = t; answer = b } ≡ word_run g s w
+    ends_cut r q p = rw p (rw q at said)
 
-  pub ends_reset : (fresh ds : List ℕ) (none : List Bool) → u ≡ U.Reset → ds ≡ defaults_on b → fresh ≡ fresh_registers (vertices_on b) (nv_on b) → none ≡ replicate 1_024 false
-      → worded_as fresh ds none W.Reset ≡ worded whole rs ws stalled w
+module _ (b : List ℕ) (s : State) where
+  abbrev fresh_with : List ℕ → List ℕ → List Bool → State
+  fresh_with fresh ds none = record { registers = fresh; weights = ds; stalled = none; maximum = s.maximum }
+
+  reset_is : reset (graph_on b) s ≡ fresh_with (fresh_registers (vertices_on b) (nv_on b)) (defaults_on b) (replicate 1_024 false)
   unfolding reset fresh_state in_use
-  ends_reset fresh ds none e d p q = let n : min (nv_on b) 256 ≡ nv_on b = omega arith in rw (d, p, q) (sym (carried_as U.Reset e ∙ rw n))
+  reset_is = let n : min (nv_on b) 256 ≡ nv_on b = omega arith in rw n
 
-  module _ (i : Instruction) (e : u ≡ U.Says i) (rs' : List ℕ) (stalled' : List Bool) (a : Answer)
-      (h : cycled_as rs' stalled' a ≡ instructed whole rs ws stalled i) where
-    done : instruct whole (state_of rs ws stalled 0) i ≡ record { state = state_of rs' ws stalled' 0; answer = a }
-    done = instruct_is whole rs ws stalled 0 i rs' stalled' a h
+  pub ends_reset : (w : ℕ) (u : Unpacked) (fresh ds : List ℕ) (none : List Bool) → u ≡ unpacked w → u ≡ Ok U.Reset → ds ≡ defaults_on b
+      → fresh ≡ fresh_registers (vertices_on b) (nv_on b) → none ≡ replicate 1_024 false
+      → record { state = fresh_with fresh ds none; answer = Ok W.Reset } ≡ word_run (graph_on b) s w
+  ends_reset w u fresh ds none h e d p q =
+      rw (d, p, q) (ap (λ (t : State). record { state = t; answer = Ok W.Reset }) (sym reset_is) ∙ carried_as (graph_on b) s w u h (Ok U.Reset) e)
 
-    pub ends_says : (x : WordAnswer) → x ≡ word_answer a → worded_as rs' ws stalled' x ≡ worded whole rs ws stalled w
-    ends_says x p = rw p (ap (λ (c : Cycle). of_word (word_cycle c)) (sym done) ∙ sym (carried_as (U.Says i) e))
+pub ruleset words = (ends_refused, ends_reset)

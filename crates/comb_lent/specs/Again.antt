@@ -1,5 +1,5 @@
 -- What is in use of a graph is all in use, so every call answers on it as on the graph itself.
-use Rattle.std.specs.Prelude.{ℕ, ◌≤◌, min, ◌≡◌, refl, List}
+use Rattle.std.specs.Prelude.{ℕ, ◌≤◌, min, ◌≡◌, refl, List, Err, Ok}
 use Rattle.std.proofs.Common.{arith}
 use Rattle.laws.specs.Leading.{leading, leading_le, leading_all, leading_each}
 use Rattle.rules.specs.Graph.{fits, edges_in_use, in_use}
@@ -11,8 +11,8 @@ use Rattle.rules.specs.Run.{Look, list, Call, execute, word, clear, seek, seek_o
 use Rattle.rules.specs.declared.graph.Graph.{Graph}
 use Rattle.rules.specs.declared.state.State.{State}
 use Rattle.rules.specs.declared.instruction.Instruction.{Instruction}
-use Rattle.rules.specs.declared.instruction.Unpacked.{Unpacked}
-use Rattle.rules.specs.declared.instruction.Unpacked.TheVariants as U
+use Rattle.rules.specs.Types.{Unpacked}
+use Rattle.rules.specs.declared.instruction.Asked.TheVariants as U
 
 pub edges_again : (es : List ℕ) (n : ℕ) → n ≤ 1_024 → edges_in_use es (min (edges_in_use es n) 1_024) ≡ edges_in_use es n
 unfolding edges_in_use
@@ -41,9 +41,9 @@ module _ (g : Graph) (s : State) where
   instruct_again i = rw (in_use_again g)
 
   carried_again : (u : Unpacked) → carried_out (in_use g) s u ≡ carried_out g s u
-  carried_again (U.Says i) = rw (instruct_again i)
-  carried_again U.Reset = rw reset_again
-  carried_again (U.Refused r) = refl
+  carried_again (Ok (U.Says i)) = rw (instruct_again i)
+  carried_again (Ok U.Reset) = rw reset_again
+  carried_again (Err r) = refl
 
   pub word_again : (w : ℕ) → word_run (in_use g) s w ≡ word_run g s w
   unfolding word_run

@@ -1,87 +1,51 @@
--- An instruction and a word on lent tables. The maximum plays no part in them, and stays.
-use Rattle.std.specs.Prelude.{ℕ, ◌≡◌, Bool, List}
-use Rattle.std.proofs.Math.Path.{refl, ap}
-use Rattle.std.proofs.Common.{sym, ◌∙◌}
+-- The maximum plays no part in an instruction or a word, and both keep it; an instruction keeps the weights, too.
+use Rattle.std.specs.Prelude.{ℕ, ◌≡◌, refl, Ok, Err}
 use Rattle.std.proofs.Math.Option.{Option, none, some}
 use Rattle.rules.specs.Graph.{in_use}
-use Rattle.rules.specs.State.{reset, fresh_state}
+use Rattle.rules.specs.State.{with_maximum, fresh_state, reset}
 use Rattle.rules.specs.Words.{unpacked}
-use Rattle.rules.specs.Instruct.{barred, unless_barred, instruct, word_answer, word_cycle, carried_out, word_run}
+use Rattle.rules.specs.Instruct.{barred, unless_barred, instruct, word_cycle, carried_out, word_run}
+use Rattle.rules.specs.Types.{Unpacked}
 use Rattle.rules.specs.declared.graph.Graph.{Graph}
-use Rattle.rules.specs.declared.state.Cycle.{Cycle}
+use Rattle.rules.specs.declared.state.State.{State}
 use Rattle.rules.specs.declared.state.WordCycle.{WordCycle}
-use Rattle.rules.specs.declared.finding.Answer.{Answer}
-use Rattle.rules.specs.declared.finding.WordAnswer.{WordAnswer}
 use Rattle.rules.specs.declared.instruction.Instruction.{Instruction}
-use Rattle.rules.specs.declared.instruction.Unpacked.{Unpacked}
-use Rattle.rules.specs.declared.instruction.Unpacked.TheVariants as U
+use Rattle.rules.specs.declared.instruction.Asked.TheVariants as U
 use Rattle.rules.specs.declared.refusal.Refusal.{Refusal}
-use Rattle.comb_cycle.specs.Cycled.{Cycled, state_of, cycled_as, of_cycle, cycled, step_cycled}
+use Rattle.comb_cycle.specs.Cycled.{kept_in, step_cycled, weights_stay}
 
--- what a word leaves and answers
-pub record Worded : Type 0 where
-  pub registers : List ℕ
-  pub weights : List ℕ
-  pub stalled : List Bool
-  pub answer : WordAnswer
+-- the cycle c, with this maximum in the state that it leaves
+abbrev pub with_left : ℕ → WordCycle → WordCycle
+with_left m c = record { state = with_maximum m c.state; answer = c.answer }
 
-abbrev pub worded_as : List ℕ → List ℕ → List Bool → WordAnswer → Worded
-worded_as rs ws stalled a = record { registers = rs; weights = ws; stalled = stalled; answer = a }
+module _ (g : Graph) (s : State) where
+  bar_keeps : (i : Instruction) (o : Option Refusal) → (unless_barred (in_use g) s i o).state.weights ≡ s.weights
+  bar_keeps i none = weights_stay (in_use g) s i
+  bar_keeps i (some r) = refl
 
-abbrev pub of_word : WordCycle → Worded
-of_word c = worded_as c.state.registers c.state.weights c.state.stalled c.answer
-
-module _ (g : Graph) (rs ws : List ℕ) (stalled : List Bool) where
-  unfoldable pub instructed : Instruction → Cycled
-  instructed i = of_cycle (instruct g (state_of rs ws stalled 0) i)
-
-  unfoldable pub worded : ℕ → Worded
-  worded w = of_word (word_run g (state_of rs ws stalled 0) w)
-
-  -- ---- the whole state after them, whatever the maximum
+  -- an instruction changes no weight
+  pub instruct_keeps : (i : Instruction) → (instruct g s i).state.weights ≡ s.weights
+  unfolding instruct
+  instruct_keeps i = bar_keeps i (barred (in_use g) i)
 
   module _ (m : ℕ) where
-    abbrev whole : Cycled → Cycle
-    whole c = record { state = state_of c.registers ws c.stalled m; answer = c.answer }
-
-    by_bar : (i : Instruction) (o : Option Refusal)
-        → unless_barred (in_use g) (state_of rs ws stalled m) i o ≡ whole (of_cycle (unless_barred (in_use g) (state_of rs ws stalled 0) i o))
-    unfolding cycled
-    by_bar i none =
-        let c = cycled (in_use g) rs ws stalled i in
-        step_cycled (in_use g) rs ws stalled m i c.registers c.stalled c.answer refl
+    by_bar : (i : Instruction) (o : Option Refusal) → unless_barred (in_use g) (with_maximum m s) i o ≡ kept_in (unless_barred (in_use g) s i o) s.weights m
+    by_bar i none = step_cycled (in_use g) s m i
     by_bar i (some r) = refl
 
-    instruct_whole : (i : Instruction) → instruct g (state_of rs ws stalled m) i ≡ whole (instructed i)
-    unfolding instruct instructed
-    instruct_whole i = by_bar i (barred (in_use g) i)
+    pub instruct_is : (i : Instruction) → instruct g (with_maximum m s) i ≡ kept_in (instruct g s i) s.weights m
+    unfolding instruct
+    instruct_is i = by_bar i (barred (in_use g) i)
 
-  weights_stay : (i : Instruction) → ws ≡ (instruct g (state_of rs ws stalled 0) i).state.weights
-  weights_stay i = ap (λ (c : Cycle). c.state.weights) (sym (instruct_whole 0 i))
+    says_is : (i : Instruction) → word_cycle (instruct g (with_maximum m s) i) ≡ with_left m (word_cycle (instruct g s i))
+    says_is i = rw (instruct_is i, instruct_keeps i)
 
-  module _ (m : ℕ) where
-    abbrev whole_word : Worded → WordCycle
-    whole_word c = record { state = state_of c.registers c.weights c.stalled m; answer = c.answer }
+    carried_is : (u : Unpacked) → carried_out g (with_maximum m s) u ≡ with_left m (carried_out g s u)
+    unfolding reset fresh_state
+    carried_is (Ok (U.Says i)) = says_is i
+    carried_is (Ok U.Reset) = refl
+    carried_is (Err r) = refl
 
-    pub instruct_is : (i : Instruction) (rs' : List ℕ) (stalled' : List Bool) (a : Answer) → cycled_as rs' stalled' a ≡ instructed i
-        → instruct g (state_of rs ws stalled m) i ≡ record { state = state_of rs' ws stalled' m; answer = a }
-    instruct_is i rs' stalled' a e = instruct_whole m i ∙ ap (whole m) (sym e)
-
-    word_by : (ws' : List ℕ) (c : Cycle) → ws ≡ ws' → word_cycle (whole m (of_cycle c)) ≡ record { state = state_of c.state.registers ws' c.state.stalled m; answer = word_answer c.answer }
-    word_by ws' c e = rw e
-
-    carried_whole : (u : Unpacked) → carried_out g (state_of rs ws stalled m) u ≡ whole_word (of_word (carried_out g (state_of rs ws stalled 0) u))
-    unfolding reset fresh_state instructed
-    carried_whole (U.Says i) =
-        ap (λ (c : Cycle). word_cycle c) (instruct_whole m i)
-        ∙ word_by (instruct g (state_of rs ws stalled 0) i).state.weights (instruct g (state_of rs ws stalled 0) i) (weights_stay i)
-    carried_whole U.Reset = refl
-    carried_whole (U.Refused r) = refl
-
-    word_whole : (w : ℕ) → word_run g (state_of rs ws stalled m) w ≡ whole_word (worded w)
-    unfolding word_run worded
-    word_whole w = carried_whole (unpacked w)
-
-    pub word_is : (w : ℕ) (rs' ws' : List ℕ) (stalled' : List Bool) (a : WordAnswer) → worded_as rs' ws' stalled' a ≡ worded w
-        → word_run g (state_of rs ws stalled m) w ≡ record { state = state_of rs' ws' stalled' m; answer = a }
-    word_is w rs' ws' stalled' a e = word_whole w ∙ ap whole_word (sym e)
+    pub word_is : (w : ℕ) → word_run g (with_maximum m s) w ≡ with_left m (word_run g s w)
+    unfolding word_run
+    word_is w = carried_is (unpacked w)

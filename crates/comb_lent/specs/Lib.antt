@@ -1,5 +1,5 @@
 pub mod Whole
-pub mod Calls
 pub mod Fresh
 pub mod Again
 pub mod Raised
+pub mod Calls

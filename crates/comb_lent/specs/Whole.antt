@@ -10,5 +10,5 @@ unfolding in_use
 all_in_use b l =
     let v : min (nv_on b) 256 ≡ nv_on b = omega arith in
     let u : min (nu_on b) 2_048 ≡ nu_on b = omega arith in
-    let e : edges_in_use (edges_on b) (min (ne_on b) 1_024) ≡ ne_on b = rw l.wired.used (edges_again (edges_on b) l.wired.limit l.wired.small) in
+    let e : edges_in_use (edges_on b) (min (ne_on b) 1_024) ≡ ne_on b = rw l.wired.used (edges_again (edges_on b) _ l.wired.small) in
     rw (v, u, e)

@@ -1,29 +1,26 @@
-// An instruction on lent tables: 13, or the cycle.
+// An instruction: 13, or the cycle.
 ghost use Rattle.std.specs.Prelude.{◌≡◌};
-ghost use Rattle.comb_cycle.specs.Cycled.{cycled_as};
-ghost use Rattle.board.specs.Board.{graph_on, Laid};
-ghost use Rattle.comb_lent.specs.Calls.{instructed};
+ghost use Rattle.rules.specs.Instruct as Instruct;
+ghost use Rattle.board.specs.Board.{graph_on};
 
 use crate::bounds::in_bounds;
 use board::Board;
 use comb_cycle::cycle::run_cycle;
-use rules::finding::Answer;
+use rules::finding::Finding;
 use rules::instruction::Instruction;
 use rules::refusal::Refusal;
-use rules::tables::{Registers, Stalls, Weights};
+use rules::state::State;
 
-pub fn instruct<'a>(
-    board: &'a Board,
-    weights: &'a Weights,
-    registers: &mut Registers,
-    stalled: &mut Stalls,
+#[tactic(auto, using(crate::proofs::Ends::ends_in, crate::proofs::Ends::ends_out))]
+pub fn instruct(
+    board: &Board,
+    state: &mut State,
     instruction: Instruction,
-) -> Answer
-    requires { Laid board.now }
-    ensures { cycled_as registers.new stalled.new result ≡ instructed (graph_on board.now) registers.old weights.now stalled.old instruction }
+) -> Result<Finding, Refusal>
+    ensures { record { state = state.new; answer = result } ≡ Instruct.instruct (graph_on board.now.table) state.old instruction }
 {
     if in_bounds(instruction) {
-        return run_cycle(board, weights, registers, stalled, instruction);
+        return run_cycle(board, state, instruction);
     }
-    Answer::Refused(Refusal::OutOfBounds)
+    Err(Refusal::OutOfBounds)
 }

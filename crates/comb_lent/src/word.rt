@@ -1,51 +1,29 @@
-// A word on lent tables: 12, a reset, or the instruction that it carries.
+// A word: 12, a reset, or the instruction that it carries.
 ghost use Rattle.std.specs.Prelude.{◌≡◌};
-ghost use Rattle.board.specs.Board.{graph_on, Laid};
 ghost use Rattle.rules.specs.Instruct as Instruct;
-ghost use Rattle.comb_lent.specs.Calls.{worded_as, worded};
+ghost use Rattle.board.specs.Board.{graph_on};
 
 use crate::instruct::instruct;
 use crate::reset::fresh_registers;
 use board::Board;
-use comb_cycle::cycle::no_flags;
 use instruction::unpack;
-use rules::finding::{Answer, WordAnswer};
-use rules::instruction::Unpacked;
-use rules::tables::{Registers, Stalls, Weights};
+use rules::finding::Carried;
+use rules::instruction::Asked;
+use rules::refusal::Refusal;
+use rules::state::State;
+use rules::tables::no_flags;
 
-fn word_answer(answer: Answer) -> WordAnswer
-    ensures { result ≡ Instruct.word_answer answer }
+#[tactic(auto, using(crate::proofs::Ends::words))]
+pub fn carry_word(board: &Board, state: &mut State, word: u32) -> Result<Carried, Refusal>
+    ensures { record { state = state.new; answer = result } ≡ Instruct.word_run (graph_on board.now.table) state.old word }
 {
-    match answer {
-        Answer::Found(finding) => WordAnswer::Found(finding),
-        Answer::Refused(refusal) => WordAnswer::Refused(refusal),
-    }
-}
-
-pub fn carry_word<'a>(
-    board: &'a Board,
-    weights: &mut Weights,
-    registers: &mut Registers,
-    stalled: &mut Stalls,
-    word: u32,
-) -> WordAnswer
-    requires { Laid board.now }
-    ensures { worded_as registers.new weights.new stalled.new result ≡ worded (graph_on board.now) registers.old weights.old stalled.old word }
-{
-    match unpack(word) {
-        Unpacked::Refused(refusal) => WordAnswer::Refused(refusal),
-        Unpacked::Reset => {
-            *weights = board::defaults(board);
-            *registers = fresh_registers(board);
-            *stalled = no_flags();
-            WordAnswer::Reset
+    match unpack(word)? {
+        Asked::Says(instruction) => Ok(Carried::Found(instruct(board, state, instruction)?)),
+        Asked::Reset => {
+            state.weights = board::defaults(&board.table);
+            state.registers = fresh_registers(board);
+            state.stalled = no_flags();
+            Ok(Carried::Reset)
         }
-        Unpacked::Says(instruction) => word_answer(instruct(
-            board,
-            weights,
-            registers,
-            stalled,
-            instruction,
-        )),
     }
 }

@@ -1,9 +1,5 @@
 -- Each kind's condition by the ends that the code has: l and r, or x, the end that is not w.
-use Prim.Native.Nat.{ℕ}
-use mathlib.Core.Path.{◌≡◌}
-use mathlib.Core.Bool.{Bool}
-use mathlib.Core.List.{List}
-use lib.Dec.{eqb}
+use Rattle.std.proofs.Common.{ℕ, ◌≡◌, Bool, List, eqb}
 use Rattle.laws.specs.Choice.{◌and◌}
 use Rattle.rules.specs.Graph.{left_of, right_of, far_end}
 use Rattle.rules.specs.Registers.{at}

@@ -1,8 +1,4 @@
-pub mod Row
-pub mod Raised
-pub mod Own
-pub mod Ends
-pub mod Place
-pub mod Walk
-pub mod Cases
+pub mod Counted
+pub mod Listed
 pub mod Turns
+pub mod Ends

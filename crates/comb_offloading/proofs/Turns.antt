@@ -1,47 +1,53 @@
--- What one unit does to the flags, and the loop over the units. f is what a holding unit does to them.
-use Prim.Native.Nat.{ℕ, ◌+◌, ◌≤◌}
-use mathlib.Core.Path.{◌≡◌, refl}
-use mathlib.Core.Bool.{Bool, true, false, not}
-use mathlib.Core.List.{List}
-use native.Mathlib.Numerals.{add-one}
-use native.Mathlib.Omega.{arith}
-use lib.ListN.{get_or, set}
-use borrow.Author.Tests.{not-true, not-false}
+-- What the loops hold at their start, after each turn and at their end: the flags after the places of v passed, and after the units passed.
+use Rattle.std.proofs.Common.{ℕ, ◌+◌, ◌*◌, ◌≤◌, ◌<◌, ◌≡◌, refl, ◌∙◌, arith, add-one, Bool, true, false, List, get_or}
 use Rattle.laws.specs.Choice.{pick}
 use Rattle.laws.specs.Fold.{up_to}
 use Rattle.rules.specs.Graph.{unit_of}
-use Rattle.rules.specs.Units.{edge_of, holds}
+use Rattle.rules.specs.Units.{raise, stalls_around}
 use Rattle.rules.specs.declared.graph.OffloadingType.{OffloadingType}
-use Rattle.comb_offloading.specs.Offload.{stalls_edge, by_unit, by_units}
+use Rattle.places.specs.Places.{edge_in, far_in}
+use Rattle.places.specs.Wired.{Wired}
+use Rattle.comb_offloading.specs.Around.{tight_other, stalls_by, stalls_along, stalls_along_lem}
+use Rattle.comb_offloading.specs.Offload.{by_unit, by_units}
 
-pub edge_raised : (u : OffloadingType) (flags : List Bool) {e : ℕ} → e ≡ edge_of u → set flags e true ≡ stalls_edge u flags
-unfolding stalls_edge
-edge_raised u flags p = rw p
+module _ (es rs fs : List ℕ) (e : ℕ) (ps : List ℕ) (v : ℕ) (flags : List Bool) where
+  pub stall_start : flags ≡ stalls_along es rs fs e ps v flags 0
+  unfolding stalls_along up_to
+  stall_start = refl
 
-module _ (es rs fs : List ℕ) (ne : ℕ) (f : OffloadingType → List Bool → List Bool) where
-  -- b is whether the unit holds
-  module _ (u : OffloadingType) (flags : List Bool) {b : Bool} (t : b ≡ holds es rs fs ne u) where
-    pub unit_idle : not b ≡ true → flags ≡ by_unit es rs fs ne f u flags
-    unfolding by_unit pick
-    unit_idle h = rw (← t, not-true b h)
+  pub stall_step : (k : ℕ) {w : ℕ} {t s : List Bool} → w ≡ get_or ps (v * 16 + k) 0 → t ≡ stalls_along es rs fs e ps v flags k
+      → s ≡ stalls_by es rs fs e (edge_in w) (far_in w) t → s ≡ stalls_along es rs fs e ps v flags (k + 1)
+  unfolding stalls_along up_to
+  stall_step k r q p = rw (add-one k, ← q, ← r) p
 
-    pub unit_held : not b ≡ false → {s : List Bool} → s ≡ f u flags → s ≡ by_unit es rs fs ne f u flags
-    unfolding by_unit pick
-    unit_held h p = rw (← t, not-false b h) p
+  pub stall_end : (k ne : ℕ) (start : List Bool) {ds : List ℕ} {n : ℕ} {t : List Bool} → t ≡ stalls_along es rs fs e ps v flags k → flags ≡ raise start v
+      → n ≡ get_or ds v 0 → k ≤ n → n ≤ k → Wired es ne ps ds → v < 256 → t ≡ stalls_around es rs fs ne e v start
+  unfolding stalls_around
+  stall_end k ne start {ds} p q d i j w u = let z : k ≡ get_or ds v 0 = omega arith in p ∙ rw (z, stalls_along_lem es rs fs e w v u flags, q)
 
-  module _ (us : List ℕ) (flags : List Bool) where
-    pub units_start : flags ≡ by_units es rs fs ne f us flags 0
-    unfolding by_units up_to
-    units_start = refl
+-- place k, whose far end is x
+module _ (es rs fs : List ℕ) (e k x : ℕ) (flags : List Bool) {b : Bool} (t : b ≡ tight_other es rs fs e k) where
+  pub far_kept : b ≡ false → flags ≡ stalls_by es rs fs e k x flags
+  unfolding stalls_by pick
+  far_kept h = rw (← t, h)
 
-    pub units_step : (k : ℕ) {w : ℕ} {u : OffloadingType} {t s : List Bool} → s ≡ by_unit es rs fs ne f u t → u ≡ unit_of w → w ≡ get_or us k 0 → t ≡ by_units es rs fs ne f us flags k
-        → s ≡ by_units es rs fs ne f us flags (k + 1)
-    unfolding by_units up_to
-    units_step k p q r h = rw (add-one k, ← r, ← q, ← h) p
+  pub far_raised : b ≡ true → {y : ℕ} → y ≡ x → {s : List Bool} → s ≡ raise flags y → s ≡ stalls_by es rs fs e k x flags
+  unfolding stalls_by pick
+  far_raised h far p = rw (← t, h, ← far) p
 
-    pub units_end : (k m : ℕ) {n : ℕ} {s : List Bool} → s ≡ by_units es rs fs ne f us flags k → k ≤ n → n ≤ k → n ≡ m → s ≡ by_units es rs fs ne f us flags m
-    units_end k m p i j e = let z : k ≡ m = omega arith in rw (← z) p
+pub ruleset stalling = (stall_start, stall_step, stall_end, far_kept, far_raised)
 
-pub ruleset turn = (edge_raised, unit_idle, unit_held)
+module _ (es rs fs : List ℕ) (ne : ℕ) (f : OffloadingType → List Bool → List Bool) (us : List ℕ) (flags : List Bool) where
+  pub units_start : flags ≡ by_units es rs fs ne f us flags 0
+  unfolding by_units up_to
+  units_start = refl
+
+  pub units_step : (k : ℕ) {w : ℕ} {u : OffloadingType} {t s : List Bool} → w ≡ get_or us k 0 → u ≡ unit_of w → t ≡ by_units es rs fs ne f us flags k → s ≡ by_unit es rs fs ne f u t
+      → s ≡ by_units es rs fs ne f us flags (k + 1)
+  unfolding by_units up_to
+  units_step k r q h p = rw (add-one k, ← r, ← q, ← h) p
+
+  pub units_end : (k m : ℕ) {n : ℕ} {s : List Bool} → s ≡ by_units es rs fs ne f us flags k → k ≤ n → n ≤ k → n ≡ m → s ≡ by_units es rs fs ne f us flags m
+  units_end k m p i j e = let z : k ≡ m = omega arith in rw (← z) p
 
 pub ruleset turns = (units_start, units_step, units_end)

@@ -1,4 +1,5 @@
--- The numbers in a unit that a word carries fit their tables.
+-- A unit with numbers that fit their tables, as the code has it, and the unit of the rules that it is. Those in any word fit, so a unit is taken out
+-- of its word without a test.
 use Rattle.std.specs.Prelude.{ℕ, ◌/◌, ◌%◌, ◌<◌, ◌≡◌, Bool, true, false, eqb}
 use Rattle.std.proofs.Common.{arith}
 use Rattle.laws.specs.Choice.{pick}
@@ -6,6 +7,13 @@ use Rattle.rules.specs.Graph.{unit_of}
 use Rattle.rules.specs.Units.{edge_of}
 use Rattle.rules.specs.declared.graph.OffloadingType.{OffloadingType}
 use Rattle.rules.specs.declared.graph.OffloadingType.TheVariants.{DefectMatch, VirtualMatch, FusionMatch}
+use Rattle.comb_offloading.specs.declared.unit.OffloadingUnit.{OffloadingUnit}
+use Rattle.comb_offloading.specs.declared.unit.OffloadingUnit.TheVariants as unit
+
+abbrev pub says : OffloadingUnit → OffloadingType
+says (unit.DefectMatch e) = DefectMatch (record { 0 = e.number })
+says (unit.VirtualMatch e v) = VirtualMatch (record { 0 = e.number }) (record { 0 = v })
+says (unit.FusionMatch e v) = FusionMatch (record { 0 = e.number }) (record { 0 = v })
 
 abbrev pub vertex_of : OffloadingType → ℕ
 vertex_of (DefectMatch e) = 0

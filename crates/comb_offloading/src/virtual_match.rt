@@ -1,74 +1,40 @@
 // "VirtualMatch: edge tight, named end virtual, other end a growing defect, and each other edge of that end untight or leading to a non-defect
 // with tight count 1"
-ghost use Rattle.std.specs.Prelude.{◌≡◌, ◌<◌};
-ghost use Rattle.rules.specs.Graph.{far_end};
+ghost use Rattle.std.specs.Prelude.{◌≡◌};
 ghost use Rattle.places.specs.Places.{edge_in, far_in};
-ghost use Rattle.board.specs.Board.{Laid};
 ghost use Rattle.comb_offloading.specs.On.{others_permit_on, permits_on, virtual_match_on};
 
 use crate::boundary::meets_virtual;
-use crate::edge::peer_of;
-use crate::other::{far_at, is_tight_other};
-use crate::vertex::{is_defect, is_unique_tight};
-use board::Board;
-use rules::index::{EdgeIndex, VertexIndex};
-use rules::tables::{Registers, Weights};
+use crate::edge::EdgeAt;
+use crate::other::is_tight_other;
+use crate::vertex::tight_count;
+use board::PlaceWord;
+use comb_edge::stage::Stage;
+use rules::registers::at;
 
-fn permits<'a>(
-    place: u32,
-    edge: EdgeIndex,
-    board: &'a Board,
-    weights: &'a Weights,
-    registers: &'a Registers,
-) -> bool
-    requires { Laid board.now }
-    ensures { result ≡ permits_on board.now registers.now weights.now edge.0 (edge_in place) (far_in place) }
+#[tactic(auto, using(laws::specs::Tests::tests), unfolding(crate::specs::Around::permits_by))]
+fn permits(place: PlaceWord, edge: EdgeAt, stage: &Stage) -> bool
+    ensures { result ≡ permits_on stage.now.board.now.table stage.now.before.now stage.now.weights.now edge.number (edge_in place.0) (far_in place.0) }
 {
-    if !is_tight_other(place, edge, board, weights, registers) {
-        return true;
-    }
-    let far = far_at(place);
-    if is_defect(far, registers) {
-        return false;
-    }
-    is_unique_tight(far, board, weights, registers)
+    let far = place.far();
+    !is_tight_other(place, edge, stage)
+        || !at(stage.before, far).is_defect && tight_count(far, stage) == 1
 }
 
-fn all_permit<'a>(
-    edge: EdgeIndex,
-    regular: VertexIndex,
-    board: &'a Board,
-    weights: &'a Weights,
-    registers: &'a Registers,
-) -> bool
-    requires { (regular.0 < 256) × Laid board.now }
-    ensures { result ≡ others_permit_on board.now registers.now weights.now edge.0 regular.0 }
+fn all_permit(edge: EdgeAt, regular: u8, stage: &Stage) -> bool
+    ensures { result ≡ others_permit_on stage.now.board.now.table stage.now.before.now stage.now.weights.now edge.number regular }
 {
-    let v = regular.0 as u8;
-    let n = board::degree(board, v);
-    let mut k: u32 = 0;
-    while k < n {
-        if !permits(board::place(board, v, k), edge, board, weights, registers) {
-            return false;
-        }
-        k += 1;
-    }
-    true
+    let table = &stage.board.table;
+    (0..board::degree(table, regular)).all(|k| {
+        let place = board::place(table, regular, k);
+        permits(place, edge, stage)
+    })
 }
 
-pub(crate) fn virtual_match<'a>(
-    edge: EdgeIndex,
-    vertex: VertexIndex,
-    board: &'a Board,
-    weights: &'a Weights,
-    registers: &'a Registers,
-) -> bool
-    requires { (edge.0 < 1_024) × (vertex.0 < 256) × Laid board.now }
-    ensures { result ≡ virtual_match_on board.now registers.now weights.now edge.0 vertex.0 }
+#[tactic(auto, using(laws::specs::Tests::tests, crate::proofs::Ends::virtual_ends))]
+pub(crate) fn virtual_match(edge: EdgeAt, vertex: u8, stage: &Stage) -> bool
+    ensures { result ≡ virtual_match_on stage.now.board.now.table stage.now.before.now stage.now.weights.now edge.number vertex }
 {
-    let regular = peer_of(edge, vertex, board);
-    if !meets_virtual(edge, vertex, regular, board, weights, registers) {
-        return false;
-    }
-    all_permit(edge, regular, board, weights, registers)
+    let regular = edge.far_end(vertex, stage.board);
+    meets_virtual(edge, vertex, regular, stage) && all_permit(edge, regular, stage)
 }

@@ -1,4 +1,3 @@
-pub mod Nexts
 pub mod Ways
 pub mod Seeks
 pub mod Again

@@ -1,176 +1,135 @@
 -- The search's loop, over variables. What is told of the search from here on is what is told of all of it; each way out tells it, and a step
 -- keeps it.
-use Prim.Native.Nat.{ℕ, zero, suc, ◌+◌, ◌-◌, ◌≤◌, min}
-use mathlib.Core.Path.{◌≡◌, refl, sym, ap, ◌∙◌, subst}
-use mathlib.Core.Bool.{Bool}
-use mathlib.Core.List.{List, []}
-use native.Mathlib.Omega.{arith}
-use lib.Dec.{eqb-suc-zero}
-use Rattle.laws.specs.Choice.{pick}
+use Rattle.std.specs.Prelude.{ℕ, zero, suc, ◌+◌, ◌≤◌, min, ◌≡◌, [], Result, Ok, Err}
+use Rattle.std.proofs.Common.{refl, sym, ap, subst, ◌∙◌, zero-add, arith}
 use Rattle.rules.specs.Instruct.{step}
-use Rattle.rules.specs.Search.{Walk, Ended, ends, next, grow_by, after_grow, after_finding, walked, told}
+use Rattle.rules.specs.Search.{Walk, Ended, begun, next, grow_by, after_grow, after_finding, turn, walked, told}
 use Rattle.rules.specs.declared.graph.Graph.{Graph}
-use Rattle.rules.specs.declared.state.Cycle.{Cycle}
+use Rattle.rules.specs.declared.state.State.{State}
 use Rattle.rules.specs.declared.state.Searched.{Searched}
 use Rattle.rules.specs.declared.finding.Length.TheVariants.{NoLimit, Ahead, Behind}
 use Rattle.rules.specs.declared.finding.Finding.{Finding}
 use Rattle.rules.specs.declared.finding.Finding.TheVariants.{GrowLength, Conflict}
-use Rattle.rules.specs.declared.finding.Answer.{Answer}
-use Rattle.rules.specs.declared.finding.Answer.TheVariants as A
+use Rattle.rules.specs.Types.{Answer}
 use Rattle.rules.specs.declared.finding.Sought.TheVariants as S
-use Rattle.rules.specs.declared.finding.Tally.{Tally}
-use Rattle.rules.specs.declared.instruction.Instruction.TheVariants.{FindObstacle, Grow as GrowBy}
+use Rattle.rules.specs.declared.instruction.Instruction.TheVariants.{FindObstacle, Grow}
 use Rattle.rules.specs.declared.refusal.Refusal.{Refusal}
-use Rattle.rules.specs.declared.refusal.Refusal.TheVariants.{NegativeLength}
-use Rattle.comb_cycle.specs.Cycled.{Cycled, state_of, cycled_as, cycled, step_cycled, refused_keeps}
-use Rattle.comb_search.specs.Seek.{walk, seek, searched_as, seek_turn, seek_grown}
-use Rattle.comb_search.specs.Next.{next_of, next_by}
-use Rattle.comb_search.specs.Turn.{Turned, turned_as, grew_by, after_next, after_answer, turned}
-use Rattle.comb_search.specs.declared.turn.Next.{Next}
-use Rattle.comb_search.specs.declared.turn.Next.TheVariants.{Stop, Negative, Grow}
+use Rattle.comb_cycle.specs.Cycled.{maximum_stays}
+use Rattle.comb_search.specs.Seek.{walk, seek, seek_turn, seek_grown}
+use Rattle.comb_search.specs.Turn.{Took, took, once}
 use Rattle.comb_search.specs.declared.turn.Turn.{Turn}
-use Rattle.comb_search.specs.declared.turn.Turn.TheVariants.{Found, Stopped, Grew}
+use Rattle.comb_search.specs.declared.turn.Turn.TheVariants.{Found, Grew}
 
--- ---- what follows a finding f at c, by what it leads to
+-- ---- a turn of the search is the turn from a walk that just begins, with the growth and steps behind it
 
-module _ (g : Graph) (rest : Walk → Ended) (c : Walk) where
-  abbrev grows_by : ℕ → Searched
-  grows_by k = told (next rest (after_grow c k (step g c.state (GrowBy k)).state (step g c.state (GrowBy k)).answer))
-
-  abbrev leads : Next → Searched
-  leads (Stop h) = told (ends c (A.Found h))
-  leads Negative = told (ends c (A.Refused NegativeLength))
-  leads (Grow k) = grows_by k
-
-  by_length : (k : ℕ) → told (next rest (grow_by g c k)) ≡ leads (next_by k)
-  unfolding next_by grow_by pick
-  by_length zero = refl
-  by_length (suc k) = rw eqb-suc-zero
-
-  by_finding : (f : Finding) → told (next rest (after_finding g c (A.Found f))) ≡ leads (next_of f c.state.maximum)
-  unfolding after_finding
-  by_finding (Conflict a b) = refl
-  by_finding (GrowLength NoLimit) = refl
-  by_finding (GrowLength (Behind n)) = refl
-  by_finding (GrowLength (Ahead n)) = by_length (min n c.state.maximum)
-
--- ---- a turn of the search is the turn on the tables
-
-module _ (g : Graph) (ws : List ℕ) (left growth steps n : ℕ) where
-  abbrev tally : Tally
-  tally = record { growth = growth; steps = steps }
-
+module _ (g : Graph) (n growth steps : ℕ) where
   -- what is told of the search after a turn
-  abbrev seek_after : List ℕ → List Bool → Turn → Searched
-  seek_after rs stalled (Found f) = searched_as rs ws stalled left (S.Found f tally)
-  seek_after rs stalled (Stopped r) = searched_as rs ws stalled left (S.Stopped r tally)
-  seek_after rs stalled (Grew k) = seek g n (state_of rs ws stalled (left - k)) (growth + k) (steps + 1)
+  abbrev seek_after : State → Result Turn Refusal → Searched
+  seek_after s (Ok (Found f)) = record { state = s; answer = S.Found f (record { growth = growth; steps = steps }) }
+  seek_after s (Ok (Grew k m)) = seek g n s (growth + k) (steps + 1)
+  seek_after s (Err r) = record { state = s; answer = S.Stopped r (record { growth = growth; steps = steps }) }
 
-  abbrev after : Turned → Searched
-  after t = seek_after t.registers t.stalled t.turn
-
-  abbrev here : List ℕ → List Bool → Walk
-  here rs stalled = walk (state_of rs ws stalled left) growth steps []
+  abbrev after : Took → Searched
+  after t = seek_after t.state t.turn
 
   abbrev rest : Walk → Ended
   rest w = walked g n w
 
-  module _ (rs : List ℕ) (stalled : List Bool) where
-    grown_as : (k : ℕ) (rs' : List ℕ) (stalled' : List Bool) (b : Answer) → cycled_as rs' stalled' b ≡ cycled g rs ws stalled (GrowBy k)
-        → told (next rest (after_grow (here rs stalled) k (state_of rs' ws stalled' left) b)) ≡ seek_after rs' stalled' (grew_by k b)
-    grown_as k rs' stalled' (A.Refused r) e = let q = refused_keeps g rs ws stalled (GrowBy k) rs' stalled' r e in rw (q.0, q.1)
-    grown_as k rs' stalled' (A.Found f) e = seek_grown g n (state_of rs ws stalled left) (state_of rs' ws stalled' left) growth steps k
+  grown_as : (s u : State) (k : ℕ) (a : Answer) → told (next rest (after_grow (walk s growth steps []) k u a)) ≡ after (took (after_grow (begun s) k u a))
+  grown_as s u k (Ok f) = rw zero-add (seek_grown g n s u growth steps k)
+  grown_as s u k (Err r) = refl
 
-    grows_as : (k : ℕ) (d : Cycled) → d ≡ cycled g rs ws stalled (GrowBy k) → grows_by g rest (here rs stalled) k ≡ after (turned_as d.registers d.stalled (grew_by k d.answer))
-    grows_as k d e =
-        ap (λ (c : Cycle). told (next rest (after_grow (here rs stalled) k c.state c.answer))) (step_cycled g rs ws stalled left (GrowBy k) d.registers d.stalled d.answer e)
-        ∙ grown_as k d.registers d.stalled d.answer e
+  grows_as : (s : State) (k : ℕ) → told (next rest (grow_by g (walk s growth steps []) k)) ≡ after (took (grow_by g (begun s) k))
+  unfolding grow_by
+  grows_as s zero = refl
+  grows_as s (suc k) = let d = step g s (Grow (suc k)) in grown_as s d.state (suc k) d.answer
 
-    leads_as : (a : Answer) (x : Next) → leads g rest (here rs stalled) x ≡ after (after_next g ws left (cycled_as rs stalled a) x)
-    leads_as a (Stop f) = refl
-    leads_as a Negative = refl
-    leads_as a (Grow k) = grows_as k (cycled g rs ws stalled (GrowBy k)) refl
+  answers_as : (s : State) (a : Answer) → told (next rest (after_finding g (walk s growth steps []) a)) ≡ after (took (after_finding g (begun s) a))
+  unfolding after_finding
+  answers_as s (Err r) = refl
+  answers_as s (Ok (Conflict a b)) = refl
+  answers_as s (Ok (GrowLength NoLimit)) = refl
+  answers_as s (Ok (GrowLength (Behind k))) = refl
+  answers_as s (Ok (GrowLength (Ahead k))) = grows_as s (min k s.maximum)
 
-    answers_as : (a : Answer) → told (next rest (after_finding g (here rs stalled) a)) ≡ after (after_answer g ws left (cycled_as rs stalled a) a)
-    unfolding after_finding
-    answers_as (A.Refused r) = refl
-    answers_as (A.Found f) = by_finding g rest (here rs stalled) f ∙ leads_as (A.Found f) (next_of f left)
+  seek_is : (s : State) → seek g (suc n) s growth steps ≡ after (took (turn g (begun s)))
+  unfolding turn
+  seek_is s = let c = step g s FindObstacle in seek_turn g n s growth steps ∙ answers_as c.state c.answer
 
-  seek_is : (rs : List ℕ) (stalled : List Bool) → seek g (suc n) (state_of rs ws stalled left) growth steps ≡ after (turned g ws left rs stalled)
-  unfolding turned
-  seek_is rs stalled =
-      let c = cycled g rs ws stalled FindObstacle in
-      seek_turn g n (state_of rs ws stalled left) growth steps
-      ∙ ap (λ (x : Cycle). told (next rest (after_finding g (walk x.state growth steps []) x.answer))) (step_cycled g rs ws stalled left FindObstacle c.registers c.stalled c.answer refl)
-      ∙ answers_as c.registers c.stalled c.answer
+-- ---- a length grown by is some, and the maximum falls by it
 
--- ---- a length grown by is at least 1 and at most what is left
+abbrev Falls : ℕ → ℕ → Result Turn Refusal → Type 0
+Falls m left (Ok (Found f)) = Unit {0}
+Falls m left (Ok (Grew k j)) = (1 ≤ k) × (left + k ≡ m) × (j ≡ 0)
+Falls m left (Err r) = Unit {0}
 
-abbrev Within : ℕ → Turn → Type 0
-Within left (Found f) = Unit {0}
-Within left (Stopped r) = Unit {0}
-Within left (Grew k) = (1 ≤ k) × (k ≤ left)
+module _ (g : Graph) (m : ℕ) where
+  abbrev FallsTo : Took → Type 0
+  FallsTo t = Falls m t.state.maximum t.turn
 
-module _ (g : Graph) (ws : List ℕ) (left : ℕ) where
-  grew_within : (k : ℕ) (a : Answer) → 1 ≤ k → k ≤ left → Within left (grew_by k a)
-  grew_within k (A.Found f) o w = (o, w)
-  grew_within k (A.Refused r) o w = tt
+  grown_falls : (s u : State) (k : ℕ) (a : Answer) → 1 ≤ k → k ≤ m → u.maximum ≡ m → FallsTo (took (after_grow (begun s) k u a))
+  grown_falls s u k (Ok f) o w e = (omega arith, omega arith, refl)
+  grown_falls s u k (Err r) o w e = tt
 
-  length_within : (c : Cycled) (k : ℕ) → k ≤ left → Within left (after_next g ws left c (next_by k)).turn
-  unfolding next_by pick
-  length_within c zero l = tt
-  length_within c (suc k) l = rw eqb-suc-zero (grew_within (suc k) (cycled g c.registers ws c.stalled (GrowBy (suc k))).answer (omega arith) l)
+  grows_falls : (s : State) (k : ℕ) → s.maximum ≡ m → k ≤ m → FallsTo (took (grow_by g (begun s) k))
+  unfolding grow_by
+  grows_falls s zero e w = tt
+  grows_falls s (suc k) e w = let d = step g s (Grow (suc k)) in grown_falls s d.state (suc k) d.answer (omega arith) w (maximum_stays g s (Grow (suc k)) ∙ e)
 
-  finding_within : (c : Cycled) (f : Finding) → Within left (after_next g ws left c (next_of f left)).turn
-  finding_within c (Conflict a b) = tt
-  finding_within c (GrowLength NoLimit) = tt
-  finding_within c (GrowLength (Behind n)) = tt
-  finding_within c (GrowLength (Ahead n)) = length_within c (min n left) (omega arith)
+  answer_falls : (s : State) (a : Answer) → s.maximum ≡ m → FallsTo (took (after_finding g (begun s) a))
+  unfolding after_finding
+  answer_falls s (Err r) e = tt
+  answer_falls s (Ok (Conflict a b)) e = tt
+  answer_falls s (Ok (GrowLength NoLimit)) e = tt
+  answer_falls s (Ok (GrowLength (Behind k))) e = tt
+  answer_falls s (Ok (GrowLength (Ahead k))) e = grows_falls s (min k s.maximum) e (omega arith)
 
-  answer_within : (c : Cycled) (a : Answer) → Within left (after_answer g ws left c a).turn
-  answer_within c (A.Refused r) = tt
-  answer_within c (A.Found f) = finding_within c f
+module _ (g : Graph) (s t : State) (r : Result Turn Refusal) (e : record { state = t; turn = r } ≡ took (turn g (begun s))) where
+  falls : Falls s.maximum t.maximum r
+  unfolding turn
+  falls =
+      let c = step g s FindObstacle in
+      subst (FallsTo g s.maximum) (sym e) (answer_falls g s.maximum c.state c.answer (maximum_stays g s FindObstacle))
 
-  turn_within : (rs rs' : List ℕ) (stalled stalled' : List Bool) (t : Turn) → turned_as rs' stalled' t ≡ turned g ws left rs stalled → Within left t
-  unfolding turned
-  turn_within rs rs' stalled stalled' t e =
-      let c = cycled g rs ws stalled FindObstacle in
-      subst (Within left) (ap (λ (x : Turned). x.turn) (sym e)) (answer_within c c.answer)
+  module _ (n k : ℕ) (q : r ≡ Ok (Grew n k)) where
+    pub grew_some : 1 ≤ n
+    grew_some = (rw q at falls).0
 
-  module _ (rs rs' : List ℕ) (stalled stalled' : List Bool) (t : Turn) (e : turned_as rs' stalled' t ≡ turned g ws left rs stalled) (k : ℕ) (q : t ≡ Grew k) where
-    pub grew_some : 1 ≤ k
-    grew_some = (rw q at (turn_within rs rs' stalled stalled' t e)).0
+    pub grew_most : t.maximum + n ≡ s.maximum
+    grew_most = (rw q at falls).1
 
-    pub grew_most : k ≤ left
-    grew_most = (rw q at (turn_within rs rs' stalled stalled' t e)).1
+    pub grew_alone : k ≡ 0
+    grew_alone = (rw q at falls).2
 
 -- ---- the loop
 
-module _ (g : Graph) (ws : List ℕ) (all : Searched) where
-  pub record Seeking (rs : List ℕ) (stalled : List Bool) (left growth steps : ℕ) : Type 0 where
+module _ (g : Graph) (all : Searched) where
+  pub record Seeking (s : State) (growth steps : ℕ) : Type 0 where
     pub fuel : ℕ
-    pub enough : left ≤ fuel
-    pub so : seek g (suc fuel) (state_of rs ws stalled left) growth steps ≡ all
+    pub enough : s.maximum ≤ fuel
+    pub so : seek g (suc fuel) s growth steps ≡ all
 
-  fuelled : (n : ℕ) {rs : List ℕ} {stalled : List Bool} {left k growth steps : ℕ} → left ≤ n → 1 ≤ k → k ≤ left
-      → seek g n (state_of rs ws stalled (left - k)) growth steps ≡ all → Seeking rs stalled (left - k) growth steps
-  fuelled zero l o w e = let z : ⊥ = omega arith in absurd z
-  fuelled (suc n) l o w e = record { fuel = n; enough = omega arith; so = e }
+  fuelled : (n : ℕ) (s : State) {growth steps : ℕ} {m : ℕ} → s.maximum + 1 ≤ m → m ≤ n → seek g n s growth steps ≡ all → Seeking s growth steps
+  fuelled zero s l w e = let z : ⊥ = omega arith in absurd z
+  fuelled (suc n) s l w e = record { fuel = n; enough = omega arith; so = e }
 
-  module _ (rs rs' : List ℕ) (stalled stalled' : List Bool) (left growth steps : ℕ) (t : Turn) (p : Seeking rs stalled left growth steps)
-      (e : turned_as rs' stalled' t ≡ turned g ws left rs stalled) where
-    told_so : seek_after g ws left growth steps p.fuel rs' stalled' t ≡ all
-    told_so = ap (after g ws left growth steps p.fuel) e ∙ sym (seek_is g ws left growth steps p.fuel rs stalled) ∙ p.so
+  module _ (s t : State) (growth steps : ℕ) (p : Seeking s growth steps) (r : Result Turn Refusal)
+      (e : record { state = t; turn = once r } ≡ took (turn g (begun s))) where
+    told_so : seek_after g p.fuel growth steps t (once r) ≡ all
+    told_so = ap (after g p.fuel growth steps) e ∙ sym (seek_is g p.fuel growth steps s) ∙ p.so
 
-    pub ends_found : (f : Finding) → t ≡ Found f → searched_as rs' ws stalled' left (S.Found f (record { growth = growth; steps = steps })) ≡ all
+    pub ends_found : (f : Finding) → r ≡ Ok (Found f) → record { state = t; answer = S.Found f (record { growth = growth; steps = steps }) } ≡ all
     ends_found f q = rw q at told_so
 
-    pub ends_stopped : (r : Refusal) → t ≡ Stopped r → searched_as rs' ws stalled' left (S.Stopped r (record { growth = growth; steps = steps })) ≡ all
-    ends_stopped r q = rw q at told_so
+    pub ends_stopped : (n : Refusal) → r ≡ Err n → record { state = t; answer = S.Stopped n (record { growth = growth; steps = steps }) } ≡ all
+    ends_stopped n q = rw q at told_so
 
-    pub goes_on_lem : (k : ℕ) → t ≡ Grew k → Seeking rs' stalled' (left - k) (growth + k) (steps + 1)
-    goes_on_lem k q =
-        fuelled p.fuel p.enough (grew_some g ws left rs rs' stalled stalled' t e k q) (grew_most g ws left rs rs' stalled stalled' t e k q) (rw q at told_so)
+    -- the step of a turn that grew, before those that repeat it
+    pub stepped : (n k : ℕ) → r ≡ Ok (Grew n k) → Seeking t (growth + n) (steps + 1)
+    stepped n k q =
+        let o : once r ≡ Ok (Grew n 0) = ap once q in
+        fuelled p.fuel t (omega (arith, grew_some g s t (once r) e n 0 o, grew_most g s t (once r) e n 0 o)) p.enough (rw q at told_so)
 
-pub begins : (g : Graph) (rs ws : List ℕ) (stalled : List Bool) (m : ℕ) → Seeking g ws (seek g (suc m) (state_of rs ws stalled m) 0 0) rs stalled m 0 0
-begins g rs ws stalled m = record { fuel = m; enough = omega arith; so = refl }
+pub begins : (g : Graph) (s : State) → Seeking g (told (walked g (suc s.maximum) (begun s))) s 0 0
+unfolding seek
+begins g s = record { fuel = s.maximum; enough = omega arith; so = refl }

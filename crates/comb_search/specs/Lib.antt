@@ -1,4 +1,3 @@
-pub mod Next
 pub mod Turn
 pub mod Seek
 pub mod Repeats

@@ -1,45 +1,47 @@
--- One turn of a search on the tables: a finding, and the Grow that it allows.
-use Rattle.std.specs.Prelude.{ℕ, Bool, List}
-use Rattle.rules.specs.declared.graph.Graph.{Graph}
-use Rattle.rules.specs.declared.finding.Answer.{Answer}
-use Rattle.rules.specs.declared.finding.Answer.TheVariants as A
-use Rattle.rules.specs.declared.instruction.Instruction.TheVariants.{FindObstacle, Grow as GrowBy}
+-- One turn of a search, as the code tells it: the end, or by how much it grew.
+use Rattle.std.specs.Prelude.{ℕ, min, eqb, Result, Ok, Err}
+use Rattle.laws.specs.Choice.{pick}
+use Rattle.rules.specs.Search.{Turned, stops, goes, ordered}
+use Rattle.rules.specs.Types.{Answer}
+use Rattle.rules.specs.declared.finding.Finding.{Finding}
+use Rattle.rules.specs.declared.finding.Finding.TheVariants.{GrowLength, Conflict}
+use Rattle.rules.specs.declared.finding.Length.TheVariants.{NoLimit, Ahead, Behind}
+use Rattle.rules.specs.declared.refusal.Refusal.{Refusal}
 use Rattle.rules.specs.declared.refusal.Refusal.TheVariants.{NegativeLength}
-use Rattle.comb_cycle.specs.Cycled.{Cycled, cycled}
-use Rattle.comb_search.specs.Next.{next_of}
-use Rattle.comb_search.specs.declared.turn.Next.{Next}
-use Rattle.comb_search.specs.declared.turn.Next.TheVariants.{Stop, Negative, Grow}
+use Rattle.rules.specs.declared.state.State.{State}
 use Rattle.comb_search.specs.declared.turn.Turn.{Turn}
-use Rattle.comb_search.specs.declared.turn.Turn.TheVariants.{Found, Stopped, Grew}
+use Rattle.comb_search.specs.declared.turn.Turn.TheVariants.{Found, Grew}
 
-pub record Turned : Type 0 where
-  pub registers : List ℕ
-  pub stalled : List Bool
-  pub turn : Turn
+-- what a turn leaves, and what is told of it
+pub record Took : Type 0 where
+  pub state : State
+  pub turn : Result Turn Refusal
 
-abbrev pub turned_as : List ℕ → List Bool → Turn → Turned
-turned_as rs stalled t = record { registers = rs; stalled = stalled; turn = t }
+abbrev pub answer_told : Answer → Result Turn Refusal
+answer_told (Ok f) = Ok (Found f)
+answer_told (Err r) = Err r
 
-abbrev pub grew_by : ℕ → Answer → Turn
-grew_by k (A.Found f) = Grew k
-grew_by k (A.Refused r) = Stopped r
+-- of a turn from a walk that just begins, so that its growth is the length grown by
+abbrev pub took : Turned → Took
+took (stops e) = record { state = e.walk.state; turn = answer_told e.answer }
+took (goes w) = record { state = w.state; turn = Ok (Grew w.growth 0) }
 
-abbrev pub ended_by : Next → Turn
-ended_by (Stop f) = Found f
-ended_by Negative = Stopped NegativeLength
-ended_by (Grow k) = Grew k
+-- a turn without those that repeat it
+abbrev pub once : Result Turn Refusal → Result Turn Refusal
+once (Ok (Found f)) = Ok (Found f)
+once (Ok (Grew n k)) = Ok (Grew n 0)
+once (Err r) = Err r
 
-module _ (g : Graph) (ws : List ℕ) (left : ℕ) where
-  abbrev pub after_next : Cycled → Next → Turned
-  after_next c (Stop f) = turned_as c.registers c.stalled (Found f)
-  after_next c Negative = turned_as c.registers c.stalled (Stopped NegativeLength)
-  after_next c (Grow k) =
-      let d = cycled g c.registers ws c.stalled (GrowBy k) in
-      turned_as d.registers d.stalled (grew_by k d.answer)
+-- ---- what a finding leads to, with so much of the maximum left
 
-  abbrev pub after_answer : Cycled → Answer → Turned
-  after_answer c (A.Refused r) = turned_as c.registers c.stalled (Stopped r)
-  after_answer c (A.Found f) = after_next c (next_of f left)
+unfoldable pub to_grow : ℕ → Turn
+to_grow n = pick (eqb n 0) (Found (GrowLength (Ahead 0))) (Grew n 0)
 
-  unfoldable pub turned : List ℕ → List Bool → Turned
-  turned rs stalled = let c = cycled g rs ws stalled FindObstacle in after_answer c c.answer
+abbrev pub clamped : ℕ → ℕ → Turn
+clamped n left = to_grow (min n left)
+
+abbrev pub next_of : Finding → ℕ → Result Turn Refusal
+next_of (Conflict a b) left = Ok (Found (ordered a b))
+next_of (GrowLength NoLimit) left = Ok (Found (GrowLength NoLimit))
+next_of (GrowLength (Behind n)) left = Err NegativeLength
+next_of (GrowLength (Ahead n)) left = Ok (clamped n left)

@@ -1,113 +1,59 @@
-// One turn of a search on lent tables: a finding, and the Grow that it allows.
-ghost use Rattle.std.specs.Prelude.{◌≡◌, min};
-ghost use Rattle.board.specs.Board.{graph_on, Laid};
-ghost use Rattle.comb_search.specs.Next.{next_of, next_by};
-ghost use Rattle.comb_search.specs.Turn.{ended_by, grew_by, turned, turned_as};
+// One turn of a search: a finding, and the Grow that it allows.
+ghost use Rattle.std.specs.Prelude.{◌≡◌};
+ghost use Rattle.rules.specs.Search.{begun, turn};
+ghost use Rattle.board.specs.Board.{graph_on};
+ghost use Rattle.comb_search.specs.Turn.{clamped, next_of, took};
 
 use board::Board;
 use comb_cycle::cycle::run_cycle;
 use interface::fix_conflict_order;
-use rules::finding::{Answer, Finding, Length};
+use rules::finding::{Finding, Length};
 use rules::instruction::Instruction;
 use rules::refusal::Refusal;
-use rules::tables::{Registers, Stalls, Weights};
+use rules::state::State;
 
-// What a finding leads to.
-#[derive(Clone, Copy)]
-pub(crate) enum Next {
-    Stop(Finding),
-    // A negative length.
-    Negative,
-    Grow(u32),
-}
-
-#[derive(Clone, Copy)]
+#[derive(Clone, Copy, Debug, PartialEq, Eq)]
 pub(crate) enum Turn {
+    // The search ends with this.
     Found(Finding),
-    Stopped(Refusal),
-    Grew(u32),
-}
-
-fn lesser(a: u32, b: u32) -> u32
-    ensures { result ≡ min a b }
-{
-    if a < b { a } else { b }
+    // It grew by this length, and so many more steps of it are left to be counted.
+    Grew { length: u32, more: u32 },
 }
 
 // "Otherwise clamp to the maximum; at 0 stop with length 0; else Grow"
-fn after_length(length: u32) -> Next
-    ensures { result ≡ next_by length }
+#[tactic(auto, unfolding(crate::specs::Turn::to_grow, laws::specs::Choice::pick))]
+fn clamped(length: u32, maximum: u32) -> Turn
+    ensures { result ≡ clamped length maximum }
 {
-    if length == 0 {
-        return Next::Stop(Finding::GrowLength(Length::Ahead(0)));
+    match length.min(maximum) {
+        0 => Turn::Found(Finding::GrowLength(Length::Ahead(0))),
+        length => Turn::Grew { length, more: 0 },
     }
-    Next::Grow(length)
 }
 
-fn after_finding(finding: Finding, left: u32) -> Next
-    ensures { result ≡ next_of finding left }
+// What a finding leads to: the end, or the length to grow by.
+fn after_finding(finding: Finding, maximum: u32) -> Result<Turn, Refusal>
+    ensures { result ≡ next_of finding maximum }
 {
     match finding {
-        Finding::Conflict(_, _) => Next::Stop(fix_conflict_order(finding)),
-        Finding::GrowLength(length) => match length {
-            Length::NoLimit => Next::Stop(finding),
-            Length::Behind(_) => Next::Negative,
-            Length::Ahead(n) => after_length(lesser(n, left)),
-        },
+        Finding::Conflict(..) => Ok(Turn::Found(fix_conflict_order(finding))),
+        Finding::GrowLength(Length::NoLimit) => Ok(Turn::Found(finding)),
+        Finding::GrowLength(Length::Behind(_)) => Err(Refusal::NegativeLength),
+        Finding::GrowLength(Length::Ahead(n)) => Ok(clamped(n, maximum)),
     }
 }
 
-// A turn that grows no further.
-fn ended(next: Next) -> Turn
-    ensures { result ≡ ended_by next }
+// "Grow and lower the maximum"
+#[tactic(auto, using(crate::proofs::Ways::turn_ends))]
+pub(crate) fn take_turn(board: &Board, state: &mut State) -> Result<Turn, Refusal>
+    ensures { record { state = state.new; turn = result } ≡ took (turn (graph_on board.now.table) (begun state.old)) }
 {
-    match next {
-        Next::Stop(last) => Turn::Found(last),
-        Next::Negative => Turn::Stopped(Refusal::NegativeLength),
-        Next::Grow(length) => Turn::Grew(length),
-    }
-}
-
-// A turn whose last cycle is answered so.
-fn grown_by(length: u32, answer: Answer) -> Turn
-    ensures { result ≡ grew_by length answer }
-{
-    match answer {
-        Answer::Refused(refusal) => Turn::Stopped(refusal),
-        Answer::Found(_) => Turn::Grew(length),
-    }
-}
-
-pub(crate) fn take_turn<'a>(
-    board: &'a Board,
-    weights: &'a Weights,
-    registers: &mut Registers,
-    stalled: &mut Stalls,
-    left: u32,
-) -> Turn
-    requires { Laid board.now }
-    ensures { turned_as registers.new stalled.new result ≡ turned (graph_on board.now) weights.now left registers.old stalled.old }
-{
-    let found = run_cycle(
-        board,
-        weights,
-        registers,
-        stalled,
-        Instruction::FindObstacle,
-    );
-    let Answer::Found(finding) = found else {
-        return grown_by(0, found);
+    let finding = run_cycle(board, state, Instruction::FindObstacle)?;
+    let turn = after_finding(finding, state.maximum)?;
+    let Turn::Grew { length, .. } = turn else {
+        return Ok(turn);
     };
-    let next = after_finding(finding, left);
-    let Next::Grow(length) = next else {
-        return ended(next);
-    };
-    let grown = run_cycle(
-        board,
-        weights,
-        registers,
-        stalled,
-        Instruction::Grow { length },
-    );
-    grown_by(length, grown)
+    run_cycle(board, state, Instruction::Grow { length })?;
+    state.maximum -= length;
+    Ok(turn)
 }

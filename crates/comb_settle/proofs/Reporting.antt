@@ -1,17 +1,9 @@
--- The loop's turns, over variables: W gives the words that are painted over start, and what the vertices find is told of the whole table.
-use Prim.Native.Nat.{ℕ, zero, suc, ◌+◌, ◌≤◌, ◌<◌}
-use mathlib.Core.Path.{◌≡◌, refl, sym, ap, ◌∙◌}
-use mathlib.Core.Bool.{Bool, true, false, ◌&&◌}
-use mathlib.Core.List.{List, [], ◌∷◌}
-use native.Mathlib.Numerals.{add-one}
-use native.Mathlib.Omega.{arith}
-use lib.Dec.{ltb}
-use lib.ListN.{get_or, set}
-use borrow.Author.Tests.{ltb-true, ltb-false, lt-ltb}
+-- What one vertex more does to the length, and what the loop holds after each turn; what the vertices find is told of the whole table.
+use Rattle.std.proofs.Common.{ℕ, ◌+◌, ◌≤◌, ◌<◌, min, ◌≡◌, refl, sym, ap, ◌∙◌, true, false, List, add-one, arith, ltb, length, set, ltb-false, lt-ltb}
 use Rattle.laws.specs.Choice.{pick, by_test}
 use Rattle.laws.specs.Fold.{up_to}
-use Rattle.laws.specs.Table.{paint, paint_from, paint_none, paint_step}
-use Rattle.rules.specs.Registers.{at, view, keep, shrinking, speed_of, fresh}
+use Rattle.laws.specs.Table.{paint, paint_none, paint_step, get_or_painted}
+use Rattle.rules.specs.Registers.{at, view, keep, shrinking, fresh}
 use Rattle.rules.proofs.Round.{view_in_range}
 use Rattle.rules.specs.Respond.{vertex_report}
 use Rattle.rules.specs.Reduce.{least, reduce, vertex_finding}
@@ -24,84 +16,66 @@ use Rattle.interface.proofs.Join.{reduce_unit_right}
 use Rattle.comb_settle.specs.Carried.{length_in}
 use Rattle.comb_settle.proofs.Settling.{fresh_seen}
 
-pub none_yet : (ys : List ℕ) → GrowLength (length_in 67_108_864) ≡ vertex_finding ys 0
-unfolding vertex_finding up_to length_in pick
-none_yet ys = refl
-
--- ---- one word w more: x holds its registers, b is whether it shrinks, and l is the length so far
+-- ---- one word w more: x holds its registers, and l is the length so far
 
 amount : (n : ℕ) → n < 67_108_864 → length_in n ≡ Ahead n
 unfolding length_in pick
 amount n small = rw (lt-ltb n 67_108_864 small)
 
-module _ (l g : ℕ) (small : g < 67_108_864) where
-  less : g < l → length_in g ≡ least (length_in l) (Ahead g)
-  unfolding length_in
-  less h =
-      by_test (λ (m : Length). length_in g ≡ least m (Ahead g)) (ltb l 67_108_864) (λ t. amount g small ∙ ap Ahead (omega arith)) (λ t. amount g small)
-
-  more : l ≤ g → length_in l ≡ least (length_in l) (Ahead g)
-  more h = rw (amount l (omega arith)) (ap Ahead (omega arith))
+bounded : (l g : ℕ) → g < 67_108_864 → length_in (min l g) ≡ least (length_in l) (Ahead g)
+unfolding length_in
+bounded l g small =
+    by_test (λ (m : Length). length_in (min l g) ≡ least m (Ahead g)) (ltb l 67_108_864)
+    (λ t. amount (min l g) (omega arith)) (λ t. let e : min l g ≡ g = omega (arith, ltb-false l 67_108_864 t) in rw e (amount g small))
 
 module _ (l w : ℕ) {x : VertexRegisters} (a : x ≡ view w) where
   small : x.grown < 67_108_864
   small = rw a (view_in_range w).grown
 
-  pub shorter : (b : Bool) → b ≡ shrinking x.speed → (b && ltb x.grown l) ≡ true → GrowLength (length_in x.grown) ≡ reduce (GrowLength (length_in l)) (vertex_report (view w))
+  pub shorter : shrinking x.speed ≡ true → {m : ℕ} → m ≡ min l x.grown → GrowLength (length_in m) ≡ reduce (GrowLength (length_in l)) (vertex_report (view w))
   unfolding vertex_report pick
-  shorter true p t = rw (← a, ← p) (ap GrowLength (less l x.grown small (ltb-true _ _ t)))
-  shorter false p t = cc
+  shorter h q = rw (← a, h, q) (ap GrowLength (bounded l x.grown small))
 
-  pub no_shorter : (b : Bool) → b ≡ shrinking x.speed → (b && ltb x.grown l) ≡ false → GrowLength (length_in l) ≡ reduce (GrowLength (length_in l)) (vertex_report (view w))
+  pub no_shorter : shrinking x.speed ≡ false → GrowLength (length_in l) ≡ reduce (GrowLength (length_in l)) (vertex_report (view w))
   unfolding vertex_report pick
-  no_shorter true p t = rw (← a, ← p) (ap GrowLength (more l x.grown small (ltb-false _ _ t)))
-  no_shorter false p t = rw (← a, ← p) (sym (reduce_unit_right (GrowLength (length_in l))))
+  no_shorter h = rw (← a, h) (sym (reduce_unit_right (GrowLength (length_in l))))
 
--- ---- one that is free
-
--- what is read where w was stored, or 0 where there is no such entry
-stored : (P : ℕ → Type 0) (ys : List ℕ) (v w : ℕ) → P w → P 0 → P (get_or (set ys v w) v 0)
-stored P [] v w a b = b
-stored P (y ∷ ys) zero w a b = a
-stored P (y ∷ ys) (suc v) w a b = stored P ys v w a b
+pub ruleset lengths = (shorter, no_shorter)
 
 fresh_quiet : (f : Finding) (x : VertexRegisters) → shrinking x.speed ≡ false → reduce f (vertex_report x) ≡ f
 unfolding vertex_report pick
 fresh_quiet f x h = rw h (reduce_unit_right f)
 
-module _ (W : ℕ → ℕ) where
-  -- an entry that is painted stays
-  stays_from : (i v n : ℕ) (xs : List ℕ) → v < n → get_or (paint_from i (suc v) W xs) v 0 ≡ get_or (paint_from i n W xs) v 0
-  unfolding paint_from
-  stays_from i v zero xs l = absurd (omega arith)
-  stays_from i v (suc n) [] l = refl
-  stays_from i zero (suc n) (x ∷ xs) l = refl
-  stays_from i (suc v) (suc n) (x ∷ xs) l = stays_from (suc i) v n xs (omega arith)
+-- a vertex that is free bounds no length
+pub free_quiet : (f : Finding) (w : ℕ) → w ≡ keep (fresh false) → f ≡ reduce f (vertex_report (view w))
+unfolding fresh
+free_quiet f w i = sym (rw (i, fresh_seen false) (fresh_quiet f (fresh false) refl))
 
-  module _ (start : List ℕ) (n v : ℕ) where
-    stays : v < n → get_or (paint (v + 1) W start) v 0 ≡ get_or (paint n W start) v 0
-    unfolding paint
-    stays l = rw (add-one v) (stays_from 0 v n start l)
+-- ---- the loop: W and S give what stages 5 and 6 make of each vertex
 
-    pub one_more : (f h : Finding) (ys : List ℕ) (w : ℕ) → h ≡ reduce f (vertex_report (view (get_or (set ys v w) v 0))) → f ≡ vertex_finding (paint n W start) v
-        → ys ≡ paint v W start → w ≡ W v → v < n → h ≡ vertex_finding (paint n W start) (v + 1)
+module _ (W S : ℕ → ℕ) (start shades : List ℕ) (n : ℕ) where
+  -- the tables and the length l after the first v vertices
+  abbrev pub SoFar : ℕ → List ℕ → List ℕ → ℕ → Type 0
+  SoFar v ys zs l =
+      (ys ≡ paint v W start) × (zs ≡ paint v S shades) × (GrowLength (length_in l) ≡ vertex_finding (paint n W start) v)
+
+  pub none_yet : SoFar 0 start shades 67_108_864
+  unfolding vertex_finding up_to length_in pick
+  none_yet = (paint_none W start, paint_none S shades, refl)
+
+  module _ (v : ℕ) (inside : v < n) (long : v < length start) where
+    reports : (w l m : ℕ) → w ≡ W v → GrowLength (length_in m) ≡ reduce (GrowLength (length_in l)) (vertex_report (view w))
+        → GrowLength (length_in l) ≡ vertex_finding (paint n W start) v → GrowLength (length_in m) ≡ vertex_finding (paint n W start) (v + 1)
     unfolding vertex_finding up_to at
-    one_more f h ys w e p q k l = rw (e, paint_step W start v w q k, stays l, add-one v, p)
+    reports w l m k e p = rw (add-one v, get_or_painted W n start v 0 inside long, ← k, e, p)
 
-    -- a vertex that is free bounds no length
-    pub one_free : (f : Finding) (ys : List ℕ) (w : ℕ) → w ≡ keep (fresh false) → f ≡ vertex_finding (paint n W start) v → ys ≡ paint v W start → w ≡ W v → v < n
-        → f ≡ vertex_finding (paint n W start) (v + 1)
-    unfolding fresh view speed_of pick
-    one_free f ys w i p q k l =
-        let quiet = stored (λ (z : ℕ). reduce f (vertex_report (view z)) ≡ f) ys v w (rw (i, fresh_seen false) (fresh_quiet f (fresh false) refl)) (fresh_quiet f (view 0) refl) in
-        one_more f f ys w (sym quiet) p q k l
+    pub turn : (w s l m : ℕ) {ys zs us ts : List ℕ} → SoFar v ys zs l → w ≡ W v → s ≡ S v
+        → GrowLength (length_in m) ≡ reduce (GrowLength (length_in l)) (vertex_report (view w)) → us ≡ set ys v w → ts ≡ set zs v s → SoFar (v + 1) us ts m
+    turn w s l m p k j e a b =
+        (a ∙ paint_step W start v w p.0 k, b ∙ paint_step S shades v s p.1 j, reports w l m k e p.2)
 
+-- what the loop has told at its end
 module _ (v n m : ℕ) (l : v ≤ n) (g : n ≤ v) (z : n ≡ m) where
-  pub filled : (W : ℕ → ℕ) (start ys : List ℕ) → ys ≡ paint v W start → ys ≡ paint m W start
-  filled W start ys p = let e : v ≡ m = omega arith in rw (← e) p
-
   pub all_told : (W : ℕ → ℕ) (start ys : List ℕ) (a : ℕ) {k : Length} → k ≡ length_in a → GrowLength (length_in a) ≡ vertex_finding (paint n W start) v → ys ≡ paint v W start
       → GrowLength k ≡ vertex_finding ys m
   all_told W start ys a r p q = let e : v ≡ n = omega arith in let d : m ≡ n = omega arith in rw (r, d, q, e) (rw e at p)
-
-pub ruleset reporting = (none_yet, one_more, filled, all_told, paint_none, paint_step)

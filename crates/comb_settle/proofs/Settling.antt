@@ -1,14 +1,9 @@
 -- One vertex, over variables: w is its word after stage 3, p its peer. A fresh one that nobody leads stays as it is and shows so; a fresh virtual
 -- one stays too, and whom it follows plays no part; a grown one stays and shows so, unless it is virtual or stalled.
-use Prim.Native.Nat.{ℕ, zero, suc, ◌+◌, ◌*◌, ◌<◌, ◌/◌, ◌%◌}
-use mathlib.Core.Path.{◌≡◌, refl, sym, ap, ◌∙◌}
-use mathlib.Core.Bool.{Bool, true, false, not, ◌&&◌}
-use mathlib.Core.List.{List}
-use native.Mathlib.Omega.{arith}
-use lib.Dec.{eqb, ltb}
-use lib.ListN.{get_or}
-use borrow.Author.Tests.{eqb-true, ltb-true, not-true}
+use Rattle.std.proofs.Common.{ℕ, zero, suc, ◌+◌, ◌*◌, ◌<◌, ◌/◌, ◌%◌, ◌≡◌, refl, sym, ap, ◌∙◌, Bool, true, false, not, ◌&&◌, List, arith, eqb, get_or, eqb-true, ltb-true, None}
+use Rattle.std.proofs.lemmas.Bool.{not-true, and_parts}
 use Rattle.laws.specs.Choice.{◌and◌, pick, and_left, and_right}
+use Rattle.laws.specs.Tests.{not_second}
 use Rattle.laws.specs.Fold.{bit}
 use Rattle.rules.specs.Graph.{has_layer}
 use Rattle.rules.specs.Numbers.{speed_code}
@@ -18,8 +13,7 @@ use Rattle.rules.specs.Execute.{waits}
 use Rattle.rules.specs.Update.{is_loose, update}
 use Rattle.rules.specs.Shadow.{yielded, shadow}
 use Rattle.rules.specs.declared.registers.VertexRegisters.{VertexRegisters}
-use Rattle.rules.specs.declared.registers.PropagatingPeer.{PropagatingPeer}
-use Rattle.rules.specs.declared.registers.PropagatingPeer.TheVariants.{Nobody}
+use Rattle.rules.specs.Types.{PropagatingPeer}
 use Rattle.comb_vertex.specs.Led.{peer_at}
 use Rattle.comb_settle.specs.Marked.{Marks}
 use Rattle.comb_settle.specs.Settled.{kept, updated_word, seen_by, shadow_word}
@@ -71,20 +65,9 @@ module _ (w : ℕ) (small : w < 4_611_686_018_427_387_904) where
       rw (code_back (w / 288_230_376_151_711_744 % 4) c, bit_back (w / 1_152_921_504_606_846_976 % 2) (omega arith), bit_back (w / 2_305_843_009_213_693_952 % 2) (omega arith))
       (piled w _ _ _ _ _ _ _ _ _ _ grown_on node_on root_on speed_on virtual_on)
 
-first_holds : (a b : Bool) → (a && b) ≡ true → a ≡ true
-first_holds true b h = refl
-first_holds false b h = h
-
-second_holds : (a b : Bool) → (a && b) ≡ true → b ≡ true
-second_holds true b h = h
-second_holds false b h = cc
-
 keeps_kept : (w : ℕ) → kept w ≡ true → keep (view w) ≡ w
 unfolding kept
-keeps_kept w h =
-    let a = ltb w 4_611_686_018_427_387_904 in
-    let b = ltb (w / 288_230_376_151_711_744 % 4) 3 in
-    keeps w (ltb-true _ _ (first_holds a b h)) (ltb-true _ _ (second_holds a b h))
+keeps_kept w h = let both = and_parts _ _ h in keeps w (ltb-true _ _ both.0) (ltb-true _ _ both.1)
 
 pub free_word : (w : ℕ) (unmarked : Bool) {b : Bool} → b ≡ (eqb w (keep (fresh false)) and unmarked) → b ≡ true → w ≡ keep (fresh false)
 free_word w unmarked free t = eqb-true w (keep (fresh false)) (and_left _ unmarked (sym free ∙ t))
@@ -96,14 +79,14 @@ module _ (es fs xs ps ds : List ℕ) (v : ℕ) where
 
   -- ---- fresh, and led by nobody
 
-  free_same : (waiting stalled : Bool) → shadow Nobody waiting stalled (fresh false) ≡ fresh false
+  free_same : (waiting stalled : Bool) → shadow None waiting stalled (fresh false) ≡ fresh false
   unfolding shadow yielded pick ◌and◌ fresh
   free_same true true = refl
   free_same true false = refl
   free_same false true = refl
   free_same false false = refl
 
-  free_stays : update Nobody (fresh false) ≡ fresh false
+  free_stays : update None (fresh false) ≡ fresh false
   unfolding update is_loose pick ◌and◌ fresh
   free_stays = refl
 
@@ -115,7 +98,7 @@ module _ (es fs xs ps ds : List ℕ) (v : ℕ) where
     is_word : w ≡ keep (fresh false)
     is_word = free_word w _ free t
 
-    unled : peer_at es fs xs ps ds v ≡ Nobody
+    unled : peer_at es fs xs ps ds v ≡ None
     unled = m.unled v u (not-true _ (and_right _ _ (sym free ∙ t)))
 
     pub free_updates : w ≡ updated_word es fs xs ps ds v
@@ -132,7 +115,7 @@ module _ (es fs xs ps ds : List ℕ) (v : ℕ) where
   unfolding update is_loose pick ◌and◌ fresh
   virtual_stays p = refl
 
-  virtual_same : (p : PropagatingPeer) (waiting stalled : Bool) → shadow p waiting stalled (fresh true) ≡ shadow Nobody waiting stalled (fresh true)
+  virtual_same : (p : PropagatingPeer) (waiting stalled : Bool) → shadow p waiting stalled (fresh true) ≡ shadow None waiting stalled (fresh true)
   unfolding shadow yielded pick ◌and◌ fresh
   virtual_same p waiting stalled = refl
 
@@ -142,7 +125,7 @@ module _ (es fs xs ps ds : List ℕ) (v : ℕ) where
     virtual_updates =
         rw (fresh_at w true i (sym same ∙ t), virtual_stays (peer_at es fs xs ps ds v)) (eqb-true w (keep (fresh true)) (sym same ∙ t))
 
-    pub virtual_shows : (vs : List ℕ) (stalled : List Bool) (x : VertexRegisters) (z : ℕ) → z ≡ seen_by vs stalled v Nobody x → x ≡ fresh true
+    pub virtual_shows : (vs : List ℕ) (stalled : List Bool) (x : VertexRegisters) (z : ℕ) → z ≡ seen_by vs stalled v None x → x ≡ fresh true
         → z ≡ shadow_word vs es fs xs ps ds stalled v
     unfolding shadow_word seen_by
     virtual_shows vs stalled x z k q =
@@ -150,47 +133,36 @@ module _ (es fs xs ps ds : List ℕ) (v : ℕ) where
 
   -- ---- grown, neither virtual nor stalled
 
-  and_off : (a : Bool) → (a and false) ≡ false
-  unfolding ◌and◌
-  and_off true = refl
-  and_off false = refl
-
   module _ (w : ℕ) (i : w ≡ get_or xs v 0) (stalled : Bool) (b : Bool)
       (firm : b ≡ (((kept w && not (eqb (view w).grown 0)) && not (view w).is_virtual) && not stalled)) (t : b ≡ true) where
-    abbrev grows_some : Bool
-    grows_some = not (eqb (view w).grown 0)
+    all_four : (((kept w && not (eqb (view w).grown 0)) && not (view w).is_virtual) ≡ true) × (not stalled ≡ true)
+    all_four = and_parts _ _ (sym firm ∙ t)
 
-    abbrev is_regular : Bool
-    is_regular = not (view w).is_virtual
+    first_three : ((kept w && not (eqb (view w).grown 0)) ≡ true) × (not (view w).is_virtual ≡ true)
+    first_three = and_parts _ _ all_four.0
 
-    all_four : (((kept w && grows_some) && is_regular) && not stalled) ≡ true
-    all_four = sym firm ∙ t
-
-    first_three : ((kept w && grows_some) && is_regular) ≡ true
-    first_three = first_holds ((kept w && grows_some) && is_regular) (not stalled) all_four
-
-    first_two : (kept w && grows_some) ≡ true
-    first_two = first_holds (kept w && grows_some) is_regular first_three
+    first_two : (kept w ≡ true) × (not (eqb (view w).grown 0) ≡ true)
+    first_two = and_parts _ _ first_three.0
 
     word_keeps : keep (view w) ≡ w
-    word_keeps = keeps_kept w (first_holds (kept w) grows_some first_two)
+    word_keeps = keeps_kept w first_two.0
 
     grown_some : eqb (view w).grown 0 ≡ false
-    grown_some = not-true (eqb (view w).grown 0) (second_holds (kept w) grows_some first_two)
+    grown_some = not-true _ first_two.1
 
-    not_virtual_lem : (view w).is_virtual ≡ false
-    not_virtual_lem = not-true (view w).is_virtual (second_holds (kept w && grows_some) is_regular first_three)
+    not_virtual : (view w).is_virtual ≡ false
+    not_virtual = not-true _ first_three.1
 
     not_stalled : stalled ≡ false
-    not_stalled = not-true stalled (second_holds ((kept w && grows_some) && is_regular) (not stalled) all_four)
+    not_stalled = not-true _ all_four.1
 
     firm_stays : (p : PropagatingPeer) → update p (view w) ≡ view w
     unfolding update is_loose pick
-    firm_stays p = rw (grown_some, and_off _)
+    firm_stays p = rw (grown_some, not_second _ false refl)
 
     firm_same : (p : PropagatingPeer) (vs : List ℕ) → shadow p (waits vs v (view w)) stalled (view w) ≡ view w
     unfolding shadow yielded waits pick
-    firm_same p vs = rw (not_virtual_lem, not_stalled, grown_some, and_off (has_layer vs v), and_off _)
+    firm_same p vs = rw (not_virtual, not_stalled, grown_some, not_second (has_layer vs v) false refl, not_second _ false refl)
 
     pub firm_updates : w ≡ updated_word es fs xs ps ds v
     unfolding updated_word at
@@ -201,13 +173,15 @@ module _ (es fs xs ps ds : List ℕ) (v : ℕ) where
     firm_shows vs flags f =
         rw (← i, ← f, firm_stays (peer_at es fs xs ps ds v), firm_same (peer_at es fs xs ps ds v) vs) (sym word_keeps)
 
-  -- ---- any other: x holds its registers after stage 3, y those after stage 5
+  -- ---- any other, by its peer p
 
-  module _ (w : ℕ) (x : VertexRegisters) (p : PropagatingPeer) (y : VertexRegisters) (i : w ≡ get_or xs v 0) (a : x ≡ view w) (l : p ≡ peer_at es fs xs ps ds v) (u : y ≡ update p x) where
-    pub updates : (z : ℕ) → z ≡ keep y → z ≡ updated_word es fs xs ps ds v
+  module _ (w : ℕ) (p : PropagatingPeer) (i : w ≡ get_or xs v 0) (l : p ≡ peer_at es fs xs ps ds v) where
+    pub updates : (z : ℕ) → z ≡ keep (update p (view w)) → z ≡ updated_word es fs xs ps ds v
     unfolding updated_word at
-    updates z k = rw (k, u, l, a, i)
+    updates z k = rw (k, l, i)
 
-    pub shows : (vs : List ℕ) (stalled : List Bool) (z : ℕ) → z ≡ seen_by vs stalled v p y → z ≡ shadow_word vs es fs xs ps ds stalled v
+    pub shows : (vs : List ℕ) (stalled : List Bool) (z : ℕ) → z ≡ seen_by vs stalled v p (update p (view w)) → z ≡ shadow_word vs es fs xs ps ds stalled v
     unfolding shadow_word at
-    shows vs stalled z k = rw (k, u, l, a, i)
+    shows vs stalled z k = rw (k, l, i)
+
+pub ruleset settling = (virtual_updates, virtual_shows, firm_updates, firm_shows, updates, shows)

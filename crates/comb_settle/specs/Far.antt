@@ -29,7 +29,7 @@ back l r v false t apart h = rw (eq-eqb l l refl) (eqb-true r v h)
 pub far_back : {es ps ds : List ℕ} {ne : ℕ} → Wired es ne ps ds → (v e : ℕ) → e < ne → touches es v e ≡ true → far_end es (far_end es v e) e ≡ v
 unfolding touches far_end edges_in_use fits
 far_back {es} w v e l h =
-    let fit : fits es e ≡ true = leading_each (fits es) w.limit e (rw w.used at l) in
+    let fit : fits es e ≡ true = leading_each (fits es) _ e (rw w.used at l) in
     back (left_of es e) (right_of es e) v (eqb (left_of es e) v) refl (not-true _ (and_left _ _ (and_left _ _ fit))) h
 
 -- G tells what each has grown, f is the fetch weight

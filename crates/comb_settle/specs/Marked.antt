@@ -1,13 +1,12 @@
 -- Which vertices are marked: the far ends of the edges of the vertices that propagate, where these edges are tight by the grown amount of the one
 -- that propagates, since a vertex that is led has grown 0. fs holds the fetch weights, xs the registers after stage 3.
-use Rattle.std.specs.Prelude.{ℕ, ◌<◌, ◌≡◌, Bool, false, List, leb, get_or, replicate}
+use Rattle.std.specs.Prelude.{ℕ, ◌<◌, ◌≡◌, Bool, false, List, leb, get_or, replicate, None}
 use Rattle.laws.specs.Choice.{pick}
 use Rattle.laws.specs.Fold.{up_to}
 use Rattle.rules.specs.Graph.{touches, far_end}
 use Rattle.rules.specs.Registers.{at}
 use Rattle.rules.specs.Units.{raise}
 use Rattle.rules.specs.Peer.{is_propagating}
-use Rattle.rules.specs.declared.registers.PropagatingPeer.TheVariants.{Nobody}
 use Rattle.places.specs.Places.{edge_in, far_in}
 use Rattle.places.specs.Wired.{Wired, walk_wired}
 use Rattle.comb_vertex.specs.Led.{peer_at}
@@ -42,4 +41,4 @@ module _ (es fs xs : List ℕ) (ne : ℕ) where
 
 -- marks that tell who has no peer
 pub record Marks (es fs xs ps ds : List ℕ) (marks : List Bool) : Type 0 where
-  pub unled : (v : ℕ) → v < 256 → get_or marks v false ≡ false → peer_at es fs xs ps ds v ≡ Nobody
+  pub unled : (v : ℕ) → v < 256 → get_or marks v false ≡ false → peer_at es fs xs ps ds v ≡ None

@@ -5,7 +5,7 @@ use Rattle.rules.specs.Execute.{waits}
 use Rattle.rules.specs.Update.{update}
 use Rattle.rules.specs.Shadow.{shadow}
 use Rattle.rules.specs.declared.registers.VertexRegisters.{VertexRegisters}
-use Rattle.rules.specs.declared.registers.PropagatingPeer.{PropagatingPeer}
+use Rattle.rules.specs.Types.{PropagatingPeer}
 use Rattle.comb_vertex.specs.Led.{peer_at}
 
 -- a word that registers keep: 62 bits, and a speed's code

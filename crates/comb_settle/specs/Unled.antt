@@ -1,6 +1,6 @@
 -- A vertex without a mark has no peer. One that has grown is led by nobody; and where it has grown 0, the edge that served it would be tight by
 -- what its far end has grown, which propagates, and so would have marked it; and a mark stays.
-use Rattle.std.specs.Prelude.{ℕ, zero, suc, ◌<◌, ◌≡◌, Bool, false, List, [], ◌∷◌, leb, eqb, length, get_or, replicate}
+use Rattle.std.specs.Prelude.{ℕ, zero, suc, ◌<◌, ◌≡◌, Bool, false, List, [], ◌∷◌, leb, eqb, length, get_or, replicate, None}
 use Rattle.std.proofs.Math.Path.{refl, ap}
 use Rattle.std.proofs.Common.{sym, ◌∙◌, le_of_suc-le-suc, not-suc-le-zero, arith}
 use Rattle.std.proofs.Math.Bool.{true}
@@ -14,8 +14,7 @@ use Rattle.rules.specs.Graph.{touches, far_end}
 use Rattle.rules.specs.Registers.{at}
 use Rattle.rules.specs.Units.{raise}
 use Rattle.rules.specs.Peer.{is_propagating, lead_by, serves, served_by, peer}
-use Rattle.rules.specs.declared.registers.PropagatingPeer.{PropagatingPeer}
-use Rattle.rules.specs.declared.registers.PropagatingPeer.TheVariants.{Nobody}
+use Rattle.rules.specs.Types.{PropagatingPeer}
 use Rattle.places.specs.Ends.{Ends}
 use Rattle.places.specs.Wired.{Wired}
 use Rattle.comb_settle.specs.Far.{far_below, far_touches, far_back, far_tight}
@@ -108,10 +107,10 @@ module _ {es ps ds : List ℕ} {ne r : ℕ} (w : Wired es ne ps ds) (ends : Ends
       unfolding served_by
       unserved e l = by_test (λ (o : Option ℕ). o ≡ none) _ (λ t. absurd (clash e l (and_left _ _ t) (and_right _ _ t))) (λ t. refl)
 
-    no_peer : peer es fs xs ne v ≡ Nobody
+    no_peer : peer es fs xs ne v ≡ None
     unfolding peer
     no_peer =
-        by_test (λ (p : PropagatingPeer). p ≡ Nobody) _
+        by_test (λ (p : PropagatingPeer). p ≡ None) _
         (λ t. ap (lead_by xs) (first_has (λ (o : Option ℕ). o ≡ none) refl ne (served_by es fs xs ne v) (unserved t))) (λ t. refl)
 
   pub marks_tell : {t : List Bool} → t ≡ marked es fs xs ne r → Marks es fs xs ps ds t

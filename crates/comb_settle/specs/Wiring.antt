@@ -1,6 +1,6 @@
 -- Over the places of the edges in use these are stages 5 and 6 of document 01.
 use Prim.Native.Nat.{ℕ, zero, suc, ◌+◌, ◌≤◌, ◌<◌}
-use Rattle.std.specs.Prelude.{◌≡◌, Bool, length}
+use Rattle.std.specs.Prelude.{◌≡◌, Bool, length, Some, None}
 use Rattle.std.proofs.Math.Path.{refl, sym}
 use Rattle.std.proofs.Common.{◌∙◌, add-zero}
 use mathlib.Core.List.{List, [], ◌∷◌}
@@ -15,8 +15,7 @@ use Rattle.rules.specs.Peer.{lead_by, served_by, peer}
 use Rattle.rules.specs.Update.{is_loose, follow, update, updated}
 use Rattle.rules.specs.Shadow.{shadows}
 use Rattle.rules.specs.declared.registers.VertexRegisters.{VertexRegisters}
-use Rattle.rules.specs.declared.registers.PropagatingPeer.{PropagatingPeer}
-use Rattle.rules.specs.declared.registers.PropagatingPeer.TheVariants.{Nobody, Leads}
+use Rattle.rules.specs.Types.{PropagatingPeer}
 use Rattle.places.specs.Wired.{Wired}
 use Rattle.comb_vertex.specs.Execution.{paint_over}
 use Rattle.comb_vertex.specs.Led.{peer_at, peer_is}
@@ -25,8 +24,8 @@ use Rattle.comb_settle.specs.Settled.{updated_word, seen_by, shadow_word}
 -- ---- stage 5 leaves registers in range, so that the word of a vertex shows them
 
 abbrev PeerInRange : PropagatingPeer → Type 0
-PeerInRange Nobody = Unit
-PeerInRange (Leads n t) = (n.0 < 65_536) × (t.0 < 65_536)
+PeerInRange None = Unit
+PeerInRange (Some lead) = (lead.node.0 < 65_536) × (lead.root.0 < 65_536)
 
 lead_in_range : (xs : List ℕ) (o : Option ℕ) → PeerInRange (lead_by xs o)
 lead_in_range xs none = tt
@@ -37,8 +36,8 @@ unfolding peer
 peer_in_range es fs xs ne v = by_test PeerInRange _ (λ t. lead_in_range xs (first ne (served_by es fs xs ne v))) (λ t. tt)
 
 follow_in_range : (p : PropagatingPeer) (x : VertexRegisters) → PeerInRange p → InRange x → InRange (follow p x)
-follow_in_range Nobody x h r = record { grown = r.grown; node = omega arith; root = omega arith }
-follow_in_range (Leads n t) x h r = record { grown = r.grown; node = h.0; root = h.1 }
+follow_in_range None x h r = record { grown = r.grown; node = omega arith; root = omega arith }
+follow_in_range (Some lead) x h r = record { grown = r.grown; node = h.0; root = h.1 }
 
 update_in_range : (p : PropagatingPeer) (x : VertexRegisters) → PeerInRange p → InRange x → InRange (update p x)
 unfolding update
@@ -61,7 +60,7 @@ module _ {A : Type 0} (f g : ℕ → A) where
 
 module _ {es ps ds : List ℕ} {ne : ℕ} (w : Wired es ne ps ds) (fs xs : List ℕ) where
   pub led : (v : ℕ) → v < 256 → peer_at es fs xs ps ds v ≡ peer es fs xs ne v
-  led v u = peer_is es ps ds ne w.limit v w.used w.listed w.counted u w.small fs xs
+  led v u = peer_is es ps ds ne ne v w.used w.listed w.counted u w.small fs xs
 
   pub updated_by : (n : ℕ) → n ≤ 256 → paint n (updated_word es fs xs ps ds) xs ≡ updated es fs xs ne n
   unfolding updated_word updated

@@ -2,80 +2,47 @@
 // walk that finds its peer.
 ghost use Rattle.std.specs.Prelude.{◌≡◌};
 ghost use Rattle.places.specs.Places.{edge_in, far_in};
-ghost use Rattle.board.specs.Board.{Laid};
 ghost use Rattle.comb_settle.specs.On.{mark_far_on, mark_around_on, marked_on};
 
-use board::Board;
-use comb_edge::fetch_weight;
-use comb_vertex::no_vertices;
-use rules::registers::view;
-use rules::tables::{Registers, VertexFlags, Weights};
+use board::PlaceWord;
+use comb_edge::stage::{Fetch, Stage};
+use rules::registers::at;
+use rules::tables::{Registers, VertexFlags, no_flags};
 
 // The far end at a place, where the edge there is tight: `grown` is that of the vertex that propagates, and it alone decides, since a vertex
 // that is led has itself grown 0. No branch, since which edges are tight is hard to predict.
-fn mark_far(
-    place: u32,
-    grown: u32,
-    board: &Board,
-    weights: &Weights,
-    before: &Registers,
-    marks: &mut VertexFlags,
-)
-    ensures { marks.new ≡ mark_far_on board.now before.now weights.now grown (edge_in place) (far_in place) marks.old }
+#[tactic(auto, using(crate::proofs::Marking::far_marked))]
+fn mark_far(place: PlaceWord, grown: u32, fetch: &Fetch, marks: &mut VertexFlags)
+    ensures { marks.new ≡ mark_far_on fetch.now.table.now fetch.now.before.now fetch.now.weights.now grown (edge_in place.0) (far_in place.0) marks.old }
 {
-    let e = (place % 1024) as usize;
-    let far = (place / 1024 % 256) as usize;
-    let tight = fetch_weight(e, board, weights, before) <= grown;
-    marks[far] = marks[far] | tight;
+    let tight = fetch.weight(place.edge()) <= grown;
+    marks[usize::from(place.far())] |= tight;
 }
 
 // What a vertex that propagates leads.
-fn mark_around<'p>(
-    v: u8,
-    board: &'p Board,
-    weights: &Weights,
-    before: &Registers,
-    executed: &Registers,
-    marks: &mut VertexFlags,
-)
-    requires { Laid board.now }
-    ensures { marks.new ≡ mark_around_on board.now before.now weights.now executed.now v marks.old }
+#[tactic(auto, using(board::specs::Board::few, crate::proofs::Marking::around))]
+fn mark_around(v: u8, stage: &Stage, executed: &Registers, marks: &mut VertexFlags)
+    ensures { marks.new ≡ mark_around_on stage.now.board.now.table stage.now.before.now stage.now.weights.now executed.now v marks.old }
 {
-    let registers = view(executed[v as usize]);
-    if !registers.is_propagating() {
-        return;
-    }
-    let n = board::degree(board, v);
-    let mut k: u32 = 0;
-    while k < n {
-        mark_far(
-            board::place(board, v, k),
-            registers.grown,
-            board,
-            weights,
-            before,
-            marks,
-        );
-        k += 1;
+    let registers = at(executed, v);
+    if registers.is_propagating() {
+        let table = &stage.board.table;
+        let fetch = stage.fetch();
+        for k in 0..board::degree(table, v) {
+            let place = board::place(table, v, k);
+            mark_far(place, registers.grown, &fetch, marks);
+        }
     }
 }
 
 // No end of an edge in use stands at the reach or beyond.
-pub(crate) fn mark_led<'p>(
-    board: &'p Board,
-    weights: &Weights,
-    before: &Registers,
-    executed: &Registers,
-) -> VertexFlags
-    requires { Laid board.now }
-    ensures { result ≡ marked_on board.now before.now weights.now executed.now }
+#[tactic(auto, using(crate::proofs::Marking::marking))]
+pub(crate) fn mark_led(stage: &Stage, executed: &Registers) -> VertexFlags
+    ensures { result ≡ marked_on stage.now.board.now.table stage.now.before.now stage.now.weights.now executed.now }
 {
-    let mut marks = no_vertices();
-    let reach = board::reach(board);
-    let mut v: usize = 0;
-    while v < reach {
-        mark_around(v as u8, board, weights, before, executed, &mut marks);
-        v += 1;
+    let mut marks = no_flags();
+    for v in 0..board::reach(&stage.board.table) {
+        mark_around(v as u8, stage, executed, &mut marks);
     }
     marks
 }

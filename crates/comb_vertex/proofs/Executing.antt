@@ -1,42 +1,19 @@
 -- What the turns of the stage 3 loop and its ways out show, over variables: x is what stage 3 makes of vertex v.
-use Prim.Native.Nat.{ℕ, ◌+◌, ◌≤◌, ◌<◌}
-use mathlib.Core.Path.{◌≡◌, refl, sym, ap, ◌∙◌}
-use mathlib.Core.Bool.{Bool, true, false}
-use mathlib.Core.List.{List}
-use mathlib.Core.Option.{Option, none}
-use native.Mathlib.Omega.{arith}
-use lib.ListN.{get_or}
+use Rattle.std.proofs.Common.{ℕ, ◌+◌, ◌≤◌, ◌<◌, ◌≡◌, sym, ◌∙◌, Bool, true, false, List, arith, Result, Ok, Err, IsErrAnd, get_or}
+use Rattle.std.proofs.Math.Option.{none}
 use Rattle.laws.specs.Choice.{pick}
-use Rattle.laws.specs.First.{first, first_none, first_pass, first_stop}
+use Rattle.laws.specs.First.{first_none, first_pass, first_stop}
 use Rattle.laws.specs.Leading.{leading_none, leading_pass, leading_stop}
 use Rattle.laws.specs.Table.{paint, paint_none, paint_step}
 use Rattle.rules.specs.Graph.{layer_of}
 use Rattle.rules.specs.Registers.{at, keep}
-use Rattle.rules.specs.Execute.{still, execute_at, execute_refusal, refusal_of}
+use Rattle.rules.specs.Execute.{still, execute_at, execute_refusal, refusal_of, refusal_for}
 use Rattle.rules.specs.declared.instruction.Instruction.{Instruction}
 use Rattle.rules.specs.declared.refusal.Refusal.{Refusal}
-use Rattle.rules.specs.declared.refusal.Refusal.TheVariants as R
 use Rattle.rules.specs.declared.registers.VertexRegisters.{VertexRegisters}
-use Rattle.rules.specs.declared.registers.Executed.{Executed}
-use Rattle.rules.specs.declared.registers.Executed.TheVariants.{Done as DoneWith, BelowZero, AboveBound}
+use Rattle.rules.specs.Types.{Executed}
+use Rattle.rules.specs.declared.registers.MoveError.{MoveError}
 use Rattle.comb_vertex.specs.Execution.{execution, is_done, concerns, unconcerned, executed_word, executed_count, executed_into}
-use Rattle.comb_vertex.specs.declared.execute.Execution.{Execution}
-use Rattle.comb_vertex.specs.declared.execute.Execution.TheVariants.{Done}
-
--- what is left after Done
-abbrev Left : Executed → Type 0
-Left x = (y : VertexRegisters) → x ≡ DoneWith y → ⊥
-
-not_done : (x : Executed) → Left x → is_done x ≡ false
-not_done (DoneWith y) h = absurd (h y refl)
-not_done BelowZero h = refl
-not_done AboveBound h = refl
-
--- the first refusal is that of x
-decides : (f : ℕ → Option Refusal) (v m : ℕ) (x : Executed) → Left x → first v f ≡ none → f v ≡ refusal_of x → v < m → first m f ≡ refusal_of x
-decides f v m (DoneWith y) h p q l = absurd (h y refl)
-decides f v m BelowZero h p q l = first_stop v m f R.BelowZero l p q
-decides f v m AboveBound h p q l = first_stop v m f R.AboveBound l p q
 
 module _ (vs rs : List ℕ) (stalled : List Bool) (i : Instruction) where
   pub start_refusal : execute_refusal vs rs stalled i 0 ≡ none
@@ -48,43 +25,46 @@ module _ (vs rs : List ℕ) (stalled : List Bool) (i : Instruction) where
   start_count = leading_none (λ v. is_done (execute_at vs rs stalled i v))
 
   module _ (v : ℕ) (x : Executed) (t : x ≡ execute_at vs rs stalled i v) where
-    module _ (y : VertexRegisters) (e : x ≡ DoneWith y) where
-      done_at_lem : execute_at vs rs stalled i v ≡ DoneWith y
-      done_at_lem = sym t ∙ e
+    module _ (y : VertexRegisters) (e : x ≡ Ok y) where
+      done_at : execute_at vs rs stalled i v ≡ Ok y
+      done_at = sym t ∙ e
 
       pub turn_refusal : execute_refusal vs rs stalled i v ≡ none → execute_refusal vs rs stalled i (v + 1) ≡ none
       unfolding execute_refusal
-      turn_refusal p = first_pass v (λ w. refusal_of (execute_at vs rs stalled i w)) p (rw done_at_lem)
+      turn_refusal p = first_pass v (λ w. refusal_of (execute_at vs rs stalled i w)) p (rw done_at)
 
       pub turn_count : executed_count vs rs stalled i v ≡ v → executed_count vs rs stalled i (v + 1) ≡ v + 1
       unfolding executed_count
-      turn_count p = leading_pass (λ w. is_done (execute_at vs rs stalled i w)) v p (rw done_at_lem)
+      turn_count p = leading_pass (λ w. is_done (execute_at vs rs stalled i w)) v p (rw done_at)
 
       pub turn_word : (z : ℕ) (b : Bool) → z ≡ keep y → b ≡ true → b ≡ concerns i v (at rs v) → z ≡ executed_word vs rs stalled i v
       unfolding executed_word pick
-      turn_word z true p q c = rw (← c, done_at_lem, p)
+      turn_word z true p q c = rw (← c, done_at, p)
       turn_word z false p q c = cc
 
-    module _ (h : Left x) (n m : ℕ) (l : v < n) (k : n ≡ m) where
-      pub stop_answer : (r : Execution) → r ≡ execution (refusal_of x) → execute_refusal vs rs stalled i v ≡ none → r ≡ execution (execute_refusal vs rs stalled i m)
-      unfolding execute_refusal
-      stop_answer r q p = q ∙ ap execution (sym (decides (λ w. refusal_of (execute_at vs rs stalled i w)) v m x h p (ap refusal_of (sym t)) (omega arith)))
+  -- the vertex v is refused
+  module _ {v n m : ℕ} {w : MoveError} (t : Err w ≡ execute_at vs rs stalled i v) (l : v < n) (k : n ≡ m) where
+    pub stop_answer : (r : Result Unit Refusal) → IsErrAnd r (λ f. f ≡ refusal_for w) → execute_refusal vs rs stalled i v ≡ none
+        → r ≡ execution (execute_refusal vs rs stalled i m)
+    unfolding execute_refusal
+    stop_answer (Ok _) q p = absurd q
+    stop_answer (Err f) q p = rw (first_stop v m (λ u. refusal_of (execute_at vs rs stalled i u)) f (omega arith) p (rw (← t, q)))
 
-      stop_count : executed_count vs rs stalled i v ≡ v → executed_count vs rs stalled i m ≡ v
-      unfolding executed_count
-      stop_count p = leading_stop (λ w. is_done (execute_at vs rs stalled i w)) v m p (rw (← t) (not_done x h)) (omega arith)
+    stop_count : executed_count vs rs stalled i v ≡ v → executed_count vs rs stalled i m ≡ v
+    unfolding executed_count
+    stop_count p = leading_stop (λ u. is_done (execute_at vs rs stalled i u)) v m p (rw (← t)) (omega arith)
 
-      pub stop_table : (xs ys : List ℕ) → ys ≡ paint v (executed_word vs rs stalled i) xs → executed_count vs rs stalled i v ≡ v
-          → ys ≡ executed_into vs rs stalled i m xs
-      unfolding executed_into
-      stop_table xs ys q p = rw (stop_count p) q
+    pub stop_table : (xs ys : List ℕ) → ys ≡ paint v (executed_word vs rs stalled i) xs → executed_count vs rs stalled i v ≡ v
+        → ys ≡ executed_into vs rs stalled i m xs
+    unfolding executed_into
+    stop_table xs ys q p = rw (stop_count p) q
 
   -- a vertex that is not concerned
   module _ (v : ℕ) (b : Bool) (c : b ≡ concerns i v (at rs v)) where
     off : b ≡ false → concerns i v (at rs v) ≡ false
     off q = sym c ∙ q
 
-    rests : b ≡ false → execute_at vs rs stalled i v ≡ DoneWith (at rs v)
+    rests : b ≡ false → execute_at vs rs stalled i v ≡ Ok (at rs v)
     unfolding execute_at
     rests q = unconcerned i v (layer_of vs v) (still vs rs stalled i v) (at rs v) (off q)
 
@@ -100,8 +80,8 @@ module _ (vs rs : List ℕ) (stalled : List Bool) (i : Instruction) where
     unfolding executed_word pick
     rest_word z p q = rw (off q, p)
 
-  module _ (v n m : ℕ) (l : v ≤ n) (g : n ≤ v) (k : n ≡ m) where
-    pub end_answer : execute_refusal vs rs stalled i v ≡ none → Done ≡ execution (execute_refusal vs rs stalled i m)
+  module _ {v n m : ℕ} (l : v ≤ n) (g : n ≤ v) (k : n ≡ m) where
+    pub end_answer : execute_refusal vs rs stalled i v ≡ none → Ok tt ≡ execution (execute_refusal vs rs stalled i m)
     end_answer p = let z : m ≡ v = omega arith in rw (z, p)
 
     pub end_table : (xs ys : List ℕ) → ys ≡ paint v (executed_word vs rs stalled i) xs → executed_count vs rs stalled i v ≡ v
@@ -110,4 +90,4 @@ module _ (vs rs : List ℕ) (stalled : List Bool) (i : Instruction) where
     end_table xs ys q p = let z : m ≡ v = omega arith in rw (z, p, q)
 
 pub ruleset executing =
-    (start_refusal, start_count, turn_refusal, turn_count, turn_word, rest_refusal, rest_count, rest_word, stop_answer, stop_table, end_answer, end_table, paint_none, paint_step)
+    (start_refusal, start_count, turn_refusal, turn_count, turn_word, rest_refusal, rest_count, rest_word, end_answer, end_table, paint_none, paint_step)

@@ -1,15 +1,12 @@
 -- What the turns of the peer walk and its ways out show, over variables: w is the word at place k, b whether it serves, d the degree.
-use Prim.Native.Nat.{ℕ, ◌+◌, ◌/◌, ◌%◌, ◌≤◌, ◌<◌}
-use mathlib.Core.Path.{◌≡◌, ◌∙◌}
-use mathlib.Core.Bool.{Bool, true, false}
-use mathlib.Core.List.{List}
-use mathlib.Core.Option.{none, some}
-use native.Mathlib.Omega.{arith}
+use Rattle.std.proofs.Common.{ℕ, ◌+◌, ◌/◌, ◌%◌, ◌≤◌, ◌<◌, ◌≡◌, ◌∙◌, Bool, true, false, List, arith, None}
+use Rattle.std.proofs.Math.Option.{none, some}
 use Rattle.laws.specs.Choice.{pick}
 use Rattle.laws.specs.First.{first, first_none, first_pass, first_stop}
 use Rattle.rules.specs.Peer.{lead_by}
-use Rattle.rules.specs.declared.registers.PropagatingPeer.{PropagatingPeer}
-use Rattle.rules.specs.declared.registers.PropagatingPeer.TheVariants.{Nobody}
+use Rattle.rules.specs.Types.{PropagatingPeer}
+use Rattle.laws.specs.Tests.{tests}
+use Rattle.comb_edge.specs.Tables.{tight_by_lem}
 use Rattle.comb_vertex.specs.Walked.{place_of, degree_of}
 use Rattle.comb_vertex.specs.Led.{serves_to, served_to, served_at, led_at}
 
@@ -24,8 +21,11 @@ module _ (es fs xs ps : List ℕ) (v k : ℕ) where
     unfolding led_at served_at served_to pick
     walk_stops ds d r e t h q l = e ∙ rw (← q, first_stop k d (served_at es fs xs ps v) (w / 1_024 % 256) l h (rw (← p, ← s, t)))
 
-  pub walk_ends : (ds : List ℕ) (d : ℕ) → first k (served_at es fs xs ps v) ≡ none → d ≡ degree_of ds v → k ≤ d → d ≤ k → Nobody ≡ led_at es fs xs ps ds v
+  pub walk_ends : (ds : List ℕ) (d : ℕ) → first k (served_at es fs xs ps v) ≡ none → d ≡ degree_of ds v → k ≤ d → d ≤ k → None ≡ led_at es fs xs ps ds v
   unfolding led_at
   walk_ends ds d h q l g = let z : degree_of ds v ≡ k = omega arith in rw (z, h)
 
 pub ruleset walks = (first_none, walk_passes, walk_stops, walk_ends)
+
+-- an edge is tight by its own word
+pub ruleset serving = (tests, tight_by_lem)

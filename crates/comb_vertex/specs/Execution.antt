@@ -1,10 +1,8 @@
 -- What stage 3 answers, and what it has written when it does: the vertices before the one that is refused.
 -- A vertex that the instruction does not concern keeps its word as it is, so what is written shows the registers after stage 3.
-use Prim.Native.Nat.{ℕ, zero, suc}
-use Rattle.std.specs.Prelude.{◌≡◌, Bool, true, false, eqb, get_or}
-use Rattle.std.proofs.Math.Path.{refl, sym, ap}
+use Rattle.std.specs.Prelude.{ℕ, zero, suc, ◌≡◌, Bool, true, false, Result, Ok, Err, eqb, get_or, List, [], ◌∷◌}
 use Rattle.std.proofs.Common.{◌∙◌, add-one}
-use mathlib.Core.List.{List, [], ◌∷◌}
+use Rattle.std.proofs.Math.Path.{refl, sym, ap}
 use Rattle.std.proofs.Math.Option.{Option, none, some}
 use Rattle.laws.specs.Choice.{◌or◌, pick, by_test}
 use Rattle.laws.specs.First.{first, or_else}
@@ -20,19 +18,15 @@ use Rattle.rules.specs.declared.instruction.Instruction.{Instruction}
 use Rattle.rules.specs.declared.instruction.Instruction.TheVariants.{SetSpeed, SetBlossom, AddDefectVertex, FindObstacle, Grow as GrowBy, LoadDefectsExternal}
 use Rattle.rules.specs.declared.refusal.Refusal.{Refusal}
 use Rattle.rules.specs.declared.registers.VertexRegisters.{VertexRegisters}
-use Rattle.rules.specs.declared.registers.Executed.{Executed}
-use Rattle.rules.specs.declared.registers.Executed.TheVariants.{Done, BelowZero, AboveBound}
-use Rattle.comb_vertex.specs.declared.execute.Execution.{Execution}
-use Rattle.comb_vertex.specs.declared.execute.Execution.TheVariants.{Done as AllDone, Refused}
+use Rattle.rules.specs.Types.{Executed}
 
-abbrev pub execution : Option Refusal → Execution
-execution none = AllDone
-execution (some n) = Refused n
+abbrev pub execution : Option Refusal → Result Unit Refusal
+execution none = Ok tt
+execution (some n) = Err n
 
 abbrev pub is_done : Executed → Bool
-is_done (Done x) = true
-is_done BelowZero = false
-is_done AboveBound = false
+is_done (Ok x) = true
+is_done (Err e) = false
 
 -- whether instruction i may change the registers x of vertex v
 abbrev pub concerns : Instruction → ℕ → VertexRegisters → Bool
@@ -50,7 +44,7 @@ pub record Shows (n : ℕ) (xs ys : List ℕ) : Type 0 where
 
 -- ---- what is not concerned stays
 
-at_rest : (s : CompactGrowState) (l : ℕ) (still : Bool) (x : VertexRegisters) → (growing s or shrinking s) ≡ false → pick still (Done x) (moved s l x) ≡ Done x
+at_rest : (s : CompactGrowState) (l : ℕ) (still : Bool) (x : VertexRegisters) → (growing s or shrinking s) ≡ false → pick still (Ok x) (moved s l x) ≡ Ok x
 unfolding pick moved ◌or◌
 at_rest Stay l true x h = refl
 at_rest Stay l false x h = refl
@@ -63,14 +57,14 @@ not_virtual_lem true x h =
     ap (λ (b : Bool). record { speed = x.speed; grown = x.grown; is_virtual = b; is_defect = x.is_defect; node = x.node; root = x.root }) (sym h)
 not_virtual_lem false x h = refl
 
-pub unconcerned : (i : Instruction) (v layer : ℕ) (still : Bool) (x : VertexRegisters) → concerns i v x ≡ false → execute i v layer still x ≡ Done x
+pub unconcerned : (i : Instruction) (v layer : ℕ) (still : Bool) (x : VertexRegisters) → concerns i v x ≡ false → execute i v layer still x ≡ Ok x
 unfolding execute pick
 unconcerned (SetSpeed n s) v layer still x h = rw h
 unconcerned (SetBlossom n b) v layer still x h = rw h
 unconcerned (AddDefectVertex w n) v layer still x h = rw h
 unconcerned FindObstacle v layer still x h = refl
 unconcerned (GrowBy l) v layer still x h = at_rest x.speed l still x h
-unconcerned (LoadDefectsExternal t) v layer still x h = ap Done (not_virtual_lem (eqb layer t.0) x h)
+unconcerned (LoadDefectsExternal t) v layer still x h = ap Ok (not_virtual_lem (eqb layer t.0) x h)
 
 or_first : {B : Type 0} (a b : Option B) → or_else a b ≡ none → a ≡ none
 or_first none b h = refl
@@ -123,9 +117,8 @@ module _ (vs rs : List ℕ) (stalled : List Bool) (i : Instruction) where
   -- ---- where none is refused, and the table held the registers before, it shows those after stage 3
 
   done_where : (x : Executed) → refusal_of x ≡ none → is_done x ≡ true
-  done_where (Done y) h = refl
-  done_where BelowZero h = cc
-  done_where AboveBound h = cc
+  done_where (Ok y) h = refl
+  done_where (Err e) h = cc
 
   abbrev refusal_at : ℕ → Option Refusal
   refusal_at v = refusal_of (execute_at vs rs stalled i v)

@@ -1,5 +1,5 @@
 -- Stage 4 by the places of a vertex: ps holds the places, ds the degrees, xs the registers after stage 3.
-use Rattle.std.specs.Prelude.{ℕ, ◌≤◌, ◌<◌, ◌≡◌, refl, Bool, true, false, List, eqb}
+use Rattle.std.specs.Prelude.{ℕ, ◌≤◌, ◌<◌, ◌≡◌, refl, Bool, true, false, List, None, eqb}
 use Rattle.std.proofs.Common.{ap}
 use Rattle.std.proofs.Math.Path.{fun_ext}
 use Rattle.std.proofs.Math.Option.{Option, none, some}
@@ -9,8 +9,7 @@ use Rattle.rules.specs.Graph.{touches, far_end, edges_in_use}
 use Rattle.rules.specs.Registers.{at}
 use Rattle.rules.specs.Fetch.{tight}
 use Rattle.rules.specs.Peer.{is_propagating, lead_by, serves, served_by, peer}
-use Rattle.rules.specs.declared.registers.PropagatingPeer.{PropagatingPeer}
-use Rattle.rules.specs.declared.registers.PropagatingPeer.TheVariants.{Nobody}
+use Rattle.rules.specs.Types.{PropagatingPeer}
 use Rattle.places.specs.Places.{edge_in, far_in, places_of, degrees_of}
 use Rattle.places.specs.Tie.{first_edges}
 use Rattle.board.specs.Board.{edges_on, places_on, degrees_on, fetched_on}
@@ -34,7 +33,7 @@ module _ (es fs xs : List ℕ) where
     led_at ds v = lead_by xs (first (degree_of ds v) (served_at v))
 
     unfoldable pub peer_at : List ℕ → ℕ → PropagatingPeer
-    peer_at ds v = pick (eqb (at xs v).grown 0) (led_at ds v) Nobody
+    peer_at ds v = pick (eqb (at xs v).grown 0) (led_at ds v) None
 
 -- on the board b, by the registers rs before the instruction and weights ws
 module _ (b rs ws xs : List ℕ) where
@@ -58,5 +57,5 @@ pub peer_is : (es ps ds : List ℕ) (n m v : ℕ) → n ≡ edges_in_use es m �
 unfolding peer_at led_at served_at served_to serves_to peer served_by serves
 peer_is es ps ds n m v used p d u most fs xs =
     rw (degree_of_lem es ps ds n m v used p d u, first_edges es ps ds n m v used p d u most (served_to es fs xs))
-    (ap (λ (f : ℕ → Option ℕ). pick (eqb (at xs v).grown 0) (lead_by xs (first n f)) Nobody)
+    (ap (λ (f : ℕ → Option ℕ). pick (eqb (at xs v).grown 0) (lead_by xs (first n f)) None)
     (fun_ext (λ e. pick_both (touches es v e) (serves_to es fs xs e (far_end es v e)) (some (far_end es v e)) none)))

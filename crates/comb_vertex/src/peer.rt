@@ -1,81 +1,58 @@
-// Stage 4: the propagating peer. `before` are the registers before the instruction, by which the first ne edges have their fetch weights.
-ghost use Rattle.std.specs.Prelude.{◌≡◌, ◌/◌, ◌%◌};
+// Stage 4: the propagating peer. What is fetched are the fetch weights by the registers before the instruction.
+ghost use Rattle.std.specs.Prelude.{◌≡◌};
 ghost use Rattle.std.proofs.Math.Option.{some};
 ghost use Rattle.rules.specs.Peer.{lead_by};
+ghost use Rattle.places.specs.Places.{edge_in, far_in};
 ghost use Rattle.comb_vertex.specs.Led.{serves_on, led_on, peer_on};
 
-use crate::{at, degree_of};
-use board::Board;
-use comb_edge::{fetch_weight, post_fetch_is_tight};
-use rules::registers::PropagatingPeer;
-use rules::tables::{Registers, Weights};
+use crate::degree_of;
+use board::PlaceWord;
+use comb_edge::stage::Fetch;
+use rules::registers::{Lead, at};
+use rules::tables::Registers;
 
 // Whether the edge at a place leads to a vertex that propagates.
-fn serves(
-    place: u32,
-    board: &Board,
-    weights: &Weights,
-    before: &Registers,
-    executed: &Registers,
-) -> bool
-    ensures { result ≡ serves_on board.now before.now weights.now executed.now (place % 1_024) (place / 1_024 % 256) }
+#[tactic(auto, using(crate::proofs::Walks::serving), unfolding(crate::specs::Led::serves_to))]
+fn serves(place: PlaceWord, fetch: &Fetch, executed: &Registers) -> bool
+    ensures { result ≡ serves_on fetch.now.table.now fetch.now.before.now fetch.now.weights.now executed.now (edge_in place.0) (far_in place.0) }
 {
-    if at(executed, (place / 1024 % 256) as u8).is_propagating() {
-        let e = (place % 1024) as usize;
-        return post_fetch_is_tight(
-            board::edge(board, e),
-            fetch_weight(e, board, weights, before),
-            executed,
-        );
-    }
-    false
+    let e = place.edge();
+    at(executed, place.far()).is_propagating()
+        && fetch.edge(e).post_fetch_is_tight(fetch.weight(e), executed)
 }
 
-fn lead(executed: &Registers, far: u8) -> PropagatingPeer
+fn lead(executed: &Registers, far: u8) -> Option<Lead>
     ensures { result ≡ lead_by executed.now (some far) }
 {
     let peer = at(executed, far);
-    let node = peer.node;
-    let root = peer.root;
-    PropagatingPeer::Leads { node, root }
+    Some(Lead {
+        node: peer.node,
+        root: peer.root,
+    })
 }
 
 // "the first edge by index that .."
-fn first_peer<'p>(
-    v: u8,
-    board: &'p Board,
-    weights: &Weights,
-    before: &Registers,
-    executed: &Registers,
-) -> PropagatingPeer
-    ensures { result ≡ led_on board.now before.now weights.now executed.now v }
+#[tactic(auto, using(crate::proofs::Walks::walks))]
+fn first_peer(v: u8, fetch: &Fetch, executed: &Registers) -> Option<Lead>
+    ensures { result ≡ led_on fetch.now.table.now fetch.now.before.now fetch.now.weights.now executed.now v }
 {
-    let degree = degree_of(board, v);
-    let mut k: u16 = 0;
-    loop {
-        if k >= degree {
-            break PropagatingPeer::Nobody;
+    for k in 0..degree_of(fetch.table, v) {
+        let place = board::place(fetch.table, v, k);
+        if serves(place, fetch, executed) {
+            return lead(executed, place.far());
         }
-        let place = board::place(board, v, k as u32);
-        if serves(place, board, weights, before, executed) {
-            break lead(executed, (place / 1024 % 256) as u8);
-        }
-        k += 1;
     }
+    None
 }
 
 // "for new grown amount 0"
-pub fn propagating_peer<'p>(
-    v: u8,
-    board: &'p Board,
-    weights: &Weights,
-    before: &Registers,
-    executed: &Registers,
-) -> PropagatingPeer
-    ensures { result ≡ peer_on board.now before.now weights.now executed.now v }
+#[tactic(auto, using(laws::specs::Tests::tests), unfolding(crate::specs::Led::peer_at))]
+pub fn propagating_peer(v: u8, fetch: &Fetch, executed: &Registers) -> Option<Lead>
+    ensures { result ≡ peer_on fetch.now.table.now fetch.now.before.now fetch.now.weights.now executed.now v }
 {
     if at(executed, v).grown == 0 {
-        return first_peer(v, board, weights, before, executed);
+        first_peer(v, fetch, executed)
+    } else {
+        None
     }
-    PropagatingPeer::Nobody
 }

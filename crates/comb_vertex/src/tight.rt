@@ -7,50 +7,42 @@ ghost use Rattle.comb_vertex.specs.Walked.{degree_of};
 ghost use Rattle.comb_vertex.specs.Tight.{tight_on};
 
 use crate::degree_of;
-use board::{Board, place};
-use comb_edge::{fetch_weight, post_fetch_count_tight};
-use rules::tables::{Registers, Weights};
+use comb_edge::stage::Fetch;
 
-fn tight_at(v: u8, k: u16, board: &Board, weights: &Weights, registers: &Registers) -> bool
+#[tactic(auto, using(comb_edge::specs::Tables::counted_tight_by_lem), unfolding(crate::specs::Tight::tight_at))]
+fn tight_at(v: u8, k: u32, fetch: &Fetch) -> bool
     requires { k < 16 }
-    ensures { result ≡ tight_on board.now registers.now weights.now v k }
+    ensures { result ≡ tight_on fetch.now.table.now fetch.now.before.now fetch.now.weights.now v k }
 {
-    let e = (place(board, v, k as u32) % 1024) as usize;
-    post_fetch_count_tight(
-        board::edge(board, e),
-        fetch_weight(e, board, weights, registers),
-        registers,
-    )
+    let e = board::place(fetch.table, v, k).edge();
+    fetch
+        .edge(e)
+        .post_fetch_count_tight(fetch.weight(e), fetch.before)
 }
 
 // The mask with bit k besides, where it is on: the mask is below that bit.
-fn with_bit(mask: u16, k: u16, on: bool) -> u16
+fn with_bit(mask: u16, k: u32, on: bool) -> u16
     requires { (k < 16) × (mask < 2 ^ k) }
     ensures { result ≡ bit on * 2 ^ k + mask }
 {
-    if on {
-        return mask | (1u16 << k);
-    }
-    mask
+    mask | u16::from(on) << k
 }
 
 // Bit k is set where place k holds a counted-tight edge.
-pub fn tight_mask<'p>(v: u8, board: &'p Board, weights: &Weights, registers: &Registers) -> u16
-    ensures { result ≡ mask_of (degree_of (degrees_on board.now) v) (tight_on board.now registers.now weights.now v) }
+#[tactic(auto, using(laws::specs::Mask::masks))]
+pub fn tight_mask(v: u8, fetch: &Fetch) -> u16
+    ensures { result ≡ mask_of (degree_of (degrees_on fetch.now.table.now) v) (tight_on fetch.now.table.now fetch.now.before.now fetch.now.weights.now v) }
 {
-    let degree = degree_of(board, v);
-    let mut mask: u16 = 0;
-    let mut k: u16 = 0;
-    while k < degree {
-        let tight = tight_at(v, k, board, weights, registers);
-        mask = with_bit(mask, k, tight);
-        k += 1;
+    let mut mask = 0;
+    for k in 0..degree_of(fetch.table, v) {
+        mask = with_bit(mask, k, tight_at(v, k, fetch));
     }
     mask
 }
 
-pub fn tight_count<'p>(v: u8, board: &'p Board, weights: &Weights, registers: &Registers) -> u32
-    ensures { result ≡ count_to (tight_on board.now registers.now weights.now v) (degree_of (degrees_on board.now) v) }
+#[tactic(auto, using(laws::specs::Mask::ones_mask))]
+pub fn tight_count(v: u8, fetch: &Fetch) -> u32
+    ensures { result ≡ count_to (tight_on fetch.now.table.now fetch.now.before.now fetch.now.weights.now v) (degree_of (degrees_on fetch.now.table.now) v) }
 {
-    u16::count_ones(tight_mask(v, board, weights, registers))
+    tight_mask(v, fetch).count_ones()
 }

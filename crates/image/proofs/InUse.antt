@@ -1,59 +1,30 @@
 -- All of an accepted image's graph is in use: the counts fit the tables, no edge is a loop, and none is an end's 17th.
-use Prim.Native.Nat.{ℕ, zero, suc, ◌+◌, ◌*◌, ◌≤◌, ◌<◌, min}
-use mathlib.Core.Path.{◌≡◌, refl, ap}
-use mathlib.Core.Bool.{Bool, true, false}
-use mathlib.Core.List.{List, [], ◌∷◌, ◌++◌, map}
-use mathlib.Core.Option.{none}
-use native.Mathlib.Omega.{arith}
-use lib.ListN.{length, get_or, replicate, length-append, length-replicate}
-use borrow.Author.Tests.{lt-ltb}
-use Rattle.laws.specs.Choice.{◌and◌, pick}
+use Rattle.std.proofs.Common.{◌≡◌, ℕ, zero, suc, ◌+◌, ◌*◌, ◌≤◌, ◌<◌, min, Bool, true, false, List, length, get_or, replicate, refl, arith}
+use Rattle.std.proofs.Math.ListN.{length-replicate}
+use Rattle.std.proofs.Math.Option.{none}
+use Rattle.laws.specs.Choice.{◌and◌}
 use Rattle.laws.specs.Fold.{up_to, count_to}
 use Rattle.laws.specs.Leading.{leading_all}
-use Rattle.laws.specs.Listed.{indices}
-use Rattle.laws.specs.Table.{table, length_table, paint, get_or_painted}
+use Rattle.laws.specs.Table.{paint, get_or_painted}
 use Rattle.rules.specs.Graph.{left_of, right_of, touches, degree, fits, edges_in_use, in_use}
-use Rattle.rules.specs.Image.{vertex_count, edge_count, unit_count, edge_left, edge_right, is_end, edges_at, image_refusal, offloading, condition, edge_word, unit_word, fusion_word, is_conditioned, unit_words, graph_of}
-use Rattle.image_refusal.specs.Accepted.{head_passes, vertices_fit, edges_fit, units_fit, edge_passes, left_inside, right_inside, ends_differ, left_room, right_room}
-
--- ---- folds and lists
+use Rattle.rules.specs.Image.{vertex_count, edge_count, unit_count, edge_left, edge_right, is_end, edges_at, image_refusal, offloading, condition, edge_word, unit_words, graph_of}
+use Rattle.image_refusal.specs.Accepted.{head_passes, vertices_fit, edges_fit, edge_passes, ends_differ, left_room, right_room}
+use Rattle.image.proofs.Ends.{left_low, right_low}
+use Rattle.image.proofs.UnitSteps.{few_edges, few_units, short, units_on_lem, units_off}
+use borrow.Author.Tests.{lt-ltb}
 
 count_same : (p q : ℕ → Bool) (n : ℕ) → ((k : ℕ) → k < n → p k ≡ q k) → count_to p n ≡ count_to q n
 unfolding up_to
 count_same p q zero h = refl
 count_same p q (suc n) h = rw (h n (omega arith), count_same p q n (λ k l. h k (omega arith)))
 
-length_map : (f : ℕ → ℕ) (xs : List ℕ) → length (map f xs) ≡ length xs
-length_map f [] = refl
-length_map f (x ∷ xs) = ap suc (length_map f xs)
-
-at_most_one : (b : Bool) (n : ℕ) → length (pick b (n ∷ []) []) ≤ 1
-unfolding pick
-at_most_one true n = omega arith
-at_most_one false n = omega arith
-
-length_indices : (p : ℕ → Bool) (n : ℕ) → length (indices p n) ≤ n
-unfolding indices
-length_indices p zero = omega arith
-length_indices p (suc n) =
-    omega (arith, length-append (indices p n) (pick (p n) (n ∷ []) []), at_most_one (p n) n, length_indices p n)
-
--- ---- the units
-
 module _ (bs : List ℕ) (ok : image_refusal bs ≡ none) where
-  abbrev listed : List ℕ
-  listed = table (unit_count bs) (unit_word bs) ++ map (fusion_word bs) (indices (is_conditioned bs) (edge_count bs))
-
-  few : (b : Bool) → length (pick b listed []) ≤ 2_048
-  unfolding pick
-  few true =
-      rw (length-append (table (unit_count bs) (unit_word bs)), length_table, length_map)
-      (omega (arith, length_indices (is_conditioned bs) (edge_count bs), edges_fit bs (head_passes bs ok), units_fit bs (head_passes bs ok)))
-  few false = omega arith
+  few : (b : Bool) → offloading bs ≡ b → length (unit_words bs) ≤ 2_048
+  few true h = rw (units_on_lem bs h) (omega (arith, short bs (unit_count bs) (edge_count bs), few_edges bs ok, few_units bs ok))
+  few false h = rw (units_off bs h) (omega arith)
 
   units_in_use : length (unit_words bs) ≤ 2_048
-  unfolding unit_words
-  units_in_use = few (offloading bs)
+  units_in_use = few (offloading bs) refl
 
   -- ---- the edges
 
@@ -67,19 +38,13 @@ module _ (bs : List ℕ) (ok : image_refusal bs ≡ none) where
         get_or_painted (edge_word bs) (edge_count bs) (replicate 1_024 0) e 0 l
         (rw (length-replicate 1_024) (omega (arith, edges_fit bs (head_passes bs ok))))
 
-    left_low : edge_left bs e < 256
-    left_low = omega (arith, left_inside bs e (edge_passes bs ok e l), vertices_fit bs (head_passes bs ok))
-
-    right_low : edge_right bs e < 256
-    right_low = omega (arith, right_inside bs e (edge_passes bs ok e l), vertices_fit bs (head_passes bs ok))
-
     left_is : left_of es e ≡ edge_left bs e
     unfolding left_of
-    left_is = rw word (omega (arith, left_low))
+    left_is = rw word (omega (arith, left_low bs e ok l))
 
     right_is : right_of es e ≡ edge_right bs e
     unfolding right_of
-    right_is = rw word (omega (arith, left_low, right_low))
+    right_is = rw word (omega (arith, left_low bs e ok l, right_low bs e ok l))
 
     touches_is : (v : ℕ) → touches es v e ≡ is_end bs v e
     unfolding touches is_end

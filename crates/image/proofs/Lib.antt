@@ -1,4 +1,7 @@
 pub mod Words
+pub mod Ends
+pub mod Lists
+pub mod Tables
 pub mod UnitSteps
-pub mod Opens
 pub mod InUse
+pub mod Opens

@@ -5,7 +5,8 @@ ghost use Rattle.std.specs.Prelude.{◌≡◌, ◌<◌};
 ghost use Rattle.rules.specs.Image.{byte_at, u16_at, u32_at, is_an_image, fusion, offloading, edge_at, unit_at};
 ghost use Rattle.image_records.specs.Records.{header_of, vertex_record, edge_record, unit_record};
 
-#[derive(Clone, Copy)]
+// Not an Option of the counts: `read_header` promises these of any bytes, an image's or not.
+#[derive(Clone, Copy, Debug, PartialEq, Eq)]
 pub struct Header {
     pub is_image: bool,
     pub vertices: u16,
@@ -14,13 +15,13 @@ pub struct Header {
     pub session: usize,
 }
 
-#[derive(Clone, Copy)]
+#[derive(Clone, Copy, Debug, PartialEq, Eq)]
 pub struct VertexRecord {
     pub default_virtual: u8,
     pub layer: u16,
 }
 
-#[derive(Clone, Copy)]
+#[derive(Clone, Copy, Debug, PartialEq, Eq)]
 pub struct EdgeRecord {
     pub left: u16,
     pub right: u16,
@@ -28,74 +29,79 @@ pub struct EdgeRecord {
     pub condition: u16,
 }
 
-#[derive(Clone, Copy)]
+// As the image has it: a kind is judged, and may be any byte.
+#[derive(Clone, Copy, Debug, PartialEq, Eq)]
 pub struct UnitRecord {
     pub kind: u8,
     pub edge: u16,
     pub vertex: u16,
 }
 
+#[tactic(auto, unfolding(rules::specs::Image::byte_at))]
 fn byte_at(bytes: &[u8], at: usize) -> u8
     ensures { result ≡ byte_at bytes.now at }
 {
-    if at < bytes.len() { bytes[at] } else { 0 }
+    bytes.get(at).copied().unwrap_or(0)
 }
 
 // "Little-endian"
+#[tactic(auto, unfolding(rules::specs::Image::u16_at))]
 fn u16_at(bytes: &[u8], at: usize) -> u16
     requires { at < 4_000_000 }
     ensures { result ≡ u16_at bytes.now at }
 {
-    let low = byte_at(bytes, at) as u16;
-    let high = byte_at(bytes, at + 1) as u16;
-    low + high * 256
+    u16::from_le_bytes([byte_at(bytes, at), byte_at(bytes, at + 1)])
 }
 
+#[tactic(auto, unfolding(rules::specs::Image::u32_at, rules::specs::Image::u16_at))]
 fn u32_at(bytes: &[u8], at: usize) -> u32
     requires { at < 3_000_000 }
     ensures { result ≡ u32_at bytes.now at }
 {
-    let low = u16_at(bytes, at) as u32;
-    let high = u16_at(bytes, at + 2) as u32;
-    low + high * 65536
+    u32::from_le_bytes([
+        byte_at(bytes, at),
+        byte_at(bytes, at + 1),
+        byte_at(bytes, at + 2),
+        byte_at(bytes, at + 3),
+    ])
 }
 
 fn edge_at(bytes: &[u8], e: u16) -> usize
     ensures { (result ≡ edge_at bytes.now e) × (result < 1_000_000) }
 {
-    let vertices = u16_at(bytes, 6) as usize;
-    12 + 3 * vertices + 10 * (e as usize)
+    let vertices = usize::from(u16_at(bytes, 6));
+    12 + 3 * vertices + 10 * usize::from(e)
 }
 
 fn unit_at(bytes: &[u8], u: u16) -> usize
     ensures { (result ≡ unit_at bytes.now u) × (result < 2_000_000) }
 {
-    edge_at(bytes, u16_at(bytes, 8)) + 5 * (u as usize)
+    edge_at(bytes, u16_at(bytes, 8)) + 5 * usize::from(u)
 }
 
+// Each flag by its name: one function over the bit would say neither.
+#[tactic(auto, using(crate::proofs::Tests::fusion_tests))]
 pub fn fusion(bytes: &[u8]) -> bool
     ensures { result ≡ fusion bytes.now }
 {
-    let flags = byte_at(bytes, 5);
-    (flags == 1) | (flags == 3)
+    matches!(byte_at(bytes, 5), 1 | 3)
 }
 
+#[tactic(auto, using(crate::proofs::Tests::offloading_tests))]
 pub fn offloading(bytes: &[u8]) -> bool
     ensures { result ≡ offloading bytes.now }
 {
-    let flags = byte_at(bytes, 5);
-    (flags == 2) | (flags == 3)
+    matches!(byte_at(bytes, 5), 2 | 3)
 }
 
+#[tactic(auto, using(crate::proofs::Tests::image_tests))]
 fn is_image(bytes: &[u8]) -> bool
     ensures { result ≡ is_an_image bytes.now }
 {
-    (12 <= bytes.len())
-        & (byte_at(bytes, 0) == 68)
-        & (byte_at(bytes, 1) == 67)
-        & (byte_at(bytes, 2) == 84)
-        & (u16_at(bytes, 3) == 1)
-        & (byte_at(bytes, 5) <= 3)
+    bytes.len() >= 12
+        && bytes.starts_with(b"DCT")
+        && u16_at(bytes, 3) == 1
+        && byte_at(bytes, 5) <= 3
 }
 
 pub fn read_header(bytes: &[u8]) -> Header
@@ -106,7 +112,7 @@ pub fn read_header(bytes: &[u8]) -> Header
         is_image: is_image(bytes),
         vertices: u16_at(bytes, 6),
         edges: u16_at(bytes, 8),
-        units: units,
+        units,
         session: unit_at(bytes, units),
     }
 }
@@ -114,7 +120,7 @@ pub fn read_header(bytes: &[u8]) -> Header
 pub fn vertex_record(bytes: &[u8], v: u16) -> VertexRecord
     ensures { result ≡ vertex_record bytes.now v }
 {
-    let at = 12 + 3 * (v as usize);
+    let at = 12 + 3 * usize::from(v);
     VertexRecord {
         default_virtual: byte_at(bytes, at),
         layer: u16_at(bytes, at + 1),

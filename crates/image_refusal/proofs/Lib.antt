@@ -1,4 +1,4 @@
 pub mod Checks
-pub mod Named
-pub mod EdgeTurns
+pub mod Counts
+pub mod Walks
 pub mod Opening

@@ -1,5 +1,5 @@
 -- The code's answers in the words of rules/specs/Image.antt.
-use Rattle.std.specs.Prelude.{ℕ, Bool, not, eqb, leb, ltb}
+use Rattle.std.specs.Prelude.{◌≡◌, refl, ℕ, Bool, not, eqb, leb, ltb, Result, Ok, Err}
 use Rattle.std.proofs.Math.Option.{Option, none, some}
 use Rattle.laws.specs.Choice.{◌and◌, ◌or◌, pick}
 use Rattle.laws.specs.First.{or_else}
@@ -8,18 +8,16 @@ use Rattle.rules.specs.declared.refusal.Refusal.{Refusal}
 use Rattle.rules.specs.declared.refusal.Refusal.TheVariants as R
 use Rattle.image_records.specs.declared.EdgeRecord.{EdgeRecord}
 use Rattle.image_records.specs.declared.UnitRecord.{UnitRecord}
-use Rattle.image_refusal.specs.declared.Check.{Check}
-use Rattle.image_refusal.specs.declared.Check.TheVariants.{Passed, Refused}
 
-unfoldable pub check_of : Option Refusal → Check
-check_of none = Passed
-check_of (some r) = Refused r
+unfoldable pub check_of : Option Refusal → Result Unit Refusal
+check_of none = Ok tt
+check_of (some r) = Err r
 
--- one test more
-unfoldable pub after_test : Check → Bool → Refusal → Check
+-- a check that passed had no refusal
+pub passed : (o : Option Refusal) → check_of o ≡ Ok tt → o ≡ none
 unfolding check_of
-after_test Passed t r = check_of (refuse_if t r)
-after_test (Refused q) t r = Refused q
+passed none h = refl
+passed (some r) h = cc
 
 unfoldable pub is_end_of : ℕ → EdgeRecord → Bool
 is_end_of v x = eqb x.left v or eqb x.right v

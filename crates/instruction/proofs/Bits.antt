@@ -1,10 +1,6 @@
 -- A field is the sum of its bits; so a row's word, with the numbers that stand in a word's fields, is the sum of the word's bits that the kind uses.
-use Prim.Native.Nat.{ℕ, zero, suc, ◌+◌, ◌*◌, ◌/◌, ◌%◌, ◌^◌, ◌<◌}
-use mathlib.Core.Path.{◌≡◌, refl, sym, ◌∙◌, ap, ap₂}
-use native.Mathlib.Nat.{mod-lt}
-use native.Mathlib.Omega.{arith}
-use lib.Dec.{eqb}
-use lib.Pow.{mod-pow-add, shr-shr}
+use Rattle.std.proofs.Common.{ℕ, zero, suc, ◌+◌, ◌*◌, ◌/◌, ◌%◌, ◌^◌, ◌<◌, ◌≡◌, refl, sym, ◌∙◌, ap, ap₂, mod-lt, arith, eqb, shr-shr}
+use lib.Pow.{mod-pow-add}
 use Rattle.laws.specs.Choice.{◌and◌, ◌or◌}
 use Rattle.laws.specs.Fold.{bit}
 use Rattle.laws.specs.Mask.{mask_of}

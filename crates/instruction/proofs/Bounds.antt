@@ -1,9 +1,6 @@
 -- What the functions of packing.rt turn on: a number fits its field exactly where document 01's bounds let it.
-use Prim.Native.Nat.{ℕ, suc, ◌^◌, ◌<◌, ◌≤◌}
-use mathlib.Core.Path.{◌≡◌, refl, sym, ◌∙◌}
-use mathlib.Core.Bool.{Bool, true, false}
-use lib.Dec.{leb, ltb, leb-suc-suc}
-use borrow.Author.Tests.{lt-ltb, le-ltb}
+use Rattle.std.proofs.Common.{ℕ, suc, ◌^◌, ◌<◌, ◌≤◌, ◌≡◌, refl, sym, ◌∙◌, Bool, true, false, leb, ltb, lt-ltb, le-ltb, Err, Ok}
+use lib.Dec.{leb-suc-suc}
 use Rattle.laws.specs.Choice.{◌and◌, pick}
 use Rattle.rules.specs.Numbers.{speed_code}
 use Rattle.rules.specs.Words.{in_bounds, kind_at, packed, packed_reset, word_for, word_of}
@@ -15,23 +12,22 @@ use Rattle.rules.specs.declared.instruction.CompactGrowState.TheVariants.{Stay, 
 use Rattle.rules.specs.declared.instruction.Instruction.{Instruction}
 use Rattle.rules.specs.declared.instruction.Instruction.TheVariants.{SetSpeed, SetBlossom, AddDefectVertex, FindObstacle, Grow as GrowBy, LoadDefectsExternal}
 use Rattle.rules.specs.declared.instruction.WordKind.{WordKind}
-use Rattle.rules.specs.declared.instruction.Packed.{Packed}
-use Rattle.rules.specs.declared.instruction.Packed.TheVariants.{Word, Refused}
+use Rattle.rules.specs.Types.{Packed}
 use Rattle.rules.specs.declared.refusal.Refusal.TheVariants.{OutOfBounds}
 use Rattle.instruction.specs.Packing.{packed_as}
 
 -- pack_as: the two tests on the row's widths
 module _ (k a b : ℕ) {kind : WordKind} {ra : ℕ} (ea : ra ≡ 2 ^ kind.a.width) (row : kind ≡ kind_at k) where
-  pub a_over : ra ≤ a → Refused OutOfBounds ≡ packed_as (kind_at k) a b
+  pub a_over : ra ≤ a → Err OutOfBounds ≡ packed_as (kind_at k) a b
   unfolding packed_as ◌and◌ pick
   a_over over = rw (← row, ← ea, le-ltb a ra over)
 
   module _ {rb : ℕ} (eb : rb ≡ 2 ^ kind.b.width) (fits : a < ra) where
-    pub b_over : rb ≤ b → Refused OutOfBounds ≡ packed_as (kind_at k) a b
+    pub b_over : rb ≤ b → Err OutOfBounds ≡ packed_as (kind_at k) a b
     unfolding packed_as ◌and◌ pick
     b_over over = rw (← row, ← ea, ← eb, lt-ltb a ra fits, le-ltb b rb over)
 
-    pub both_fit : (w : ℕ) → w ≡ word_of kind a b → b < rb → Word w ≡ packed_as (kind_at k) a b
+    pub both_fit : (w : ℕ) → w ≡ word_of kind a b → b < rb → Ok w ≡ packed_as (kind_at k) a b
     unfolding packed_as ◌and◌ pick
     both_fit w e also = rw (← row, ← ea, ← eb, lt-ltb a ra fits, lt-ltb b rb also, e)
 
@@ -86,11 +82,11 @@ in_arm is e row = rw is (e ∙ sym row)
 pub ruleset packing = (in_arm, speed_packs, blossom_packs, defect_packs, obstacle_packs, load_packs, grow_packs)
 
 -- 13 is given exactly where document 01's bounds do not hold
-refused : (t : Bool) (w : ℕ) → pick t (Word w) (Refused OutOfBounds) ≡ Refused OutOfBounds → t ≡ false
+refused : (t : Bool) (w : ℕ) → pick t (Ok w) (Err OutOfBounds) ≡ Err OutOfBounds → t ≡ false
 unfolding pick
 refused true w e = cc
 refused false w e = refl
 
-pub thirteen : (i : Instruction) → (packed i ≡ Refused OutOfBounds → in_bounds i ≡ false) × (in_bounds i ≡ false → packed i ≡ Refused OutOfBounds)
+pub thirteen : (i : Instruction) → (packed i ≡ Err OutOfBounds → in_bounds i ≡ false) × (in_bounds i ≡ false → packed i ≡ Err OutOfBounds)
 unfolding packed pick
 thirteen i = (refused (in_bounds i) (word_for i), λ e. rw e)

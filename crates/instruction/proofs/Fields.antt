@@ -1,10 +1,7 @@
 -- Field packing, once over place and width.
-use Prim.Native.Nat.{ℕ, ◌+◌, ◌*◌, ◌/◌, ◌^◌, ◌<◌}
-use mathlib.Core.Path.{◌≡◌}
-use native.Mathlib.Nat.{add_assoc, add-mul, lt_of_lt_of_le, mod-lt, mul_assoc, mul_comm}
-use native.Mathlib.Omega.{arith}
+use Rattle.std.proofs.Common.{ℕ, ◌+◌, ◌*◌, ◌/◌, ◌^◌, ◌<◌, ◌≡◌, add_assoc, add-mul, lt_of_lt_of_le, mod-lt, mul_assoc, mul_comm, arith, pow-add, pow_mono, pow_pos}
 use lib.Arith.{digits_lt}
-use lib.Pow.{high, low, pow-add, pow_mono, pow_pos}
+use lib.Pow.{high, low}
 use Rattle.rules.specs.Words.{field_of}
 use Rattle.rules.specs.declared.instruction.Field.{Field}
 use Rattle.rules.specs.declared.instruction.WordKind.{WordKind}

@@ -1,13 +1,8 @@
 -- What the walk over the table finds: a word's own kind, if the word was made from a row, and else nothing but a kind that the word has.
-use Prim.Native.Nat.{ℕ, zero, suc, ◌/◌, ◌%◌, ◌<◌}
-use mathlib.Core.Path.{◌≡◌, refl}
-use mathlib.Core.Bool.{Bool, true, false}
-use mathlib.Core.Option.{Option, none, some}
-use native.Mathlib.Omega.{arith}
-use lib.Dec.{eqb}
-use borrow.Author.Tests.{ne_eqb}
+use Rattle.std.proofs.Common.{ℕ, ◌/◌, ◌%◌, ◌<◌, ◌≡◌, refl, Bool, true, false, arith, eqb, ne_eqb}
+use Rattle.std.proofs.Math.Option.{Option, none, some}
 use Rattle.laws.specs.Choice.{◌and◌, pick}
-use Rattle.laws.specs.First.{first, or_else}
+use Rattle.laws.specs.First.{first, first_has, or_else}
 use Rattle.rules.specs.Words.{field_of, is_kind, kind_at, kind_in, kind_of_word, word_of}
 use Rattle.instruction.proofs.Table.{each_at}
 
@@ -43,19 +38,6 @@ own_kind a b k h =
     (((((((tt, speed_kind _ (omega arith)), blossom_kind _ (omega arith)), defect_kind _ (omega arith)), extended _ 0 (omega arith) (omega arith)), extended _ 4 (omega arith) (omega arith)), extended _ 5 (omega arith) (omega arith)), extended _ 6 (omega arith) (omega arith))
     k h
 
--- what holds of each answer below n holds of the first
-module _ {B : Type 0} (P : B → Type 0) where
-  of_either : (x y : Option B) → ((b : B) → x ≡ some b → P b) → ((b : B) → y ≡ some b → P b) → (b : B) → or_else x y ≡ some b → P b
-  of_either none y px py b e = py b e
-  of_either (some a) y px py b e = px b e
-
-  of_first : (f : ℕ → Option B) (n : ℕ) → ((k : ℕ) → k < n → (b : B) → f k ≡ some b → P b) → (b : B) → first n f ≡ some b → P b
-  unfolding first
-  of_first f zero each b e =
-      let z : ◌≡◌ {A = ℕ} 0 1 = cc in
-      absurd (omega arith)
-  of_first f (suc n) each b e = of_either (first n f) (f n) (of_first f n (λ k l. each k (omega arith))) (each n (omega arith)) b e
-
 -- the kind that is found is in the table, and is the word's
 abbrev pub Found : ℕ → ℕ → Type 0
 Found w k = (k < 7) × (is_kind (kind_at k) w ≡ true)
@@ -65,10 +47,9 @@ unfolding pick
 kind_in_lem w k h true e j q =
     let same : k ≡ j = cc in
     rw (← same) (h, e)
-kind_in_lem w k h false e j q =
-    let z : ◌≡◌ {A = ℕ} 0 1 = cc in
-    absurd (omega arith)
+kind_in_lem w k h false e j q = cc
 
 pub kind_found : (w k : ℕ) → kind_of_word w ≡ some k → Found w k
 unfolding kind_of_word kind_in
-kind_found w k e = of_first (Found w) (kind_in w) 7 (λ j l b q. kind_in_lem w j l (is_kind (kind_at j) w) refl b q) k e
+kind_found w k e =
+    first_has (λ (o : Option ℕ). (j : ℕ) → o ≡ some j → Found w j) (λ j q. cc) 7 (kind_in w) (λ j l. kind_in_lem w j l (is_kind (kind_at j) w) refl) k e

@@ -1,18 +1,11 @@
 -- Unpacking what was packed gives it back: the word is found to be of its row's kind, and the field law reads its numbers.
-use Prim.Native.Nat.{ℕ, ◌+◌, ◌*◌, ◌-◌, ◌^◌, ◌<◌}
-use mathlib.Core.Path.{◌≡◌, ◌∙◌, ap}
-use mathlib.Core.Bool.{true}
-use native.Mathlib.Nat.{mul_assoc, zero-add, zero-mul}
-use native.Mathlib.Omega.{arith}
-use lib.Dec.{leb, lit<}
-use lib.Pow.{pow-add}
-use borrow.Author.Tests.{leb-true}
+use Rattle.std.proofs.Common.{ℕ, ◌+◌, ◌*◌, ◌-◌, ◌^◌, ◌<◌, ◌≡◌, ◌∙◌, ap, true, mul_assoc, zero-add, zero-mul, arith, leb, lit<, pow-add, leb-true, Ok}
 use Rattle.laws.specs.Choice.{and_left, and_right}
 use Rattle.rules.specs.Words.{asks, field_of, in_bounds, kind_at, speed_asked, unpacked, word_for, word_of}
 use Rattle.rules.specs.declared.instruction.CompactGrowState.TheVariants.{Stay, Grow, Shrink}
 use Rattle.rules.specs.declared.instruction.Instruction.{Instruction}
 use Rattle.rules.specs.declared.instruction.Instruction.TheVariants.{SetSpeed, SetBlossom, AddDefectVertex, FindObstacle, Grow as GrowBy, LoadDefectsExternal}
-use Rattle.rules.specs.declared.instruction.Unpacked.TheVariants.{Says, Reset}
+use Rattle.rules.specs.declared.instruction.Asked.TheVariants.{Says, Reset}
 use Rattle.rules.specs.declared.instruction.WordKind.{WordKind}
 use Rattle.instruction.specs.Sound.{Sound}
 use Rattle.instruction.proofs.Table.{sound}
@@ -43,7 +36,7 @@ index : (n : ℕ) → leb n 32_767 ≡ true → n < 2 ^ 15
 index n e = omega (arith, leb-true n 32_767 e)
 
 -- UNPACK OF PACK is the same instruction, for every one that packs, and reset; and the word has 32 bits
-pub unpack_of_pack : (i : Instruction) → in_bounds i ≡ true → (unpacked (word_for i) ≡ Says i) × (word_for i < 2 ^ 32)
+pub unpack_of_pack : (i : Instruction) → in_bounds i ≡ true → (unpacked (word_for i) ≡ Ok (Says i)) × (word_for i < 2 ^ 32)
 unfolding in_bounds word_for asks speed_asked
 unpack_of_pack (SetSpeed n Stay) e = carried 0 n.0 0 (lit< tt) (index _ e) (lit< tt)
 unpack_of_pack (SetSpeed n Grow) e = carried 0 n.0 1 (lit< tt) (index _ e) (lit< tt)
@@ -54,6 +47,6 @@ unpack_of_pack FindObstacle e = carried 3 0 0 (lit< tt) (lit< tt) (lit< tt)
 unpack_of_pack (GrowBy l) e = carried 6 l 0 (lit< tt) (omega (arith, leb-true l 67_108_863 e)) (lit< tt)
 unpack_of_pack (LoadDefectsExternal t) e = carried 5 t.0 0 (lit< tt) (index _ e) (lit< tt)
 
-pub unpack_of_reset : (unpacked (word_of (kind_at 4) 0 0) ≡ Reset) × (word_of (kind_at 4) 0 0 < 2 ^ 32)
+pub unpack_of_reset : (unpacked (word_of (kind_at 4) 0 0) ≡ Ok Reset) × (word_of (kind_at 4) 0 0 < 2 ^ 32)
 unfolding asks
 unpack_of_reset = carried 4 0 0 (lit< tt) (lit< tt) (lit< tt)

@@ -1,3 +1,4 @@
 pub mod Sound
+pub mod Place
 pub mod Packing
 pub mod Spare

@@ -1,26 +1,32 @@
-// The table of word kinds: packing and reading both go by it.
+// The kinds of words: packing and reading both go by what bits each has.
 ghost use Rattle.std.specs.Prelude.{◌≡◌, ◌<◌, ◌^◌};
-ghost use Rattle.rules.specs.Words.{kind_at};
+ghost use Rattle.rules.specs.Words.{kind_at, kind_of, no_field};
 ghost use Rattle.instruction.specs.Sound.{Sound};
+ghost use Rattle.instruction.specs.Place.{place};
 
 use rules::instruction::{Field, WordKind};
 
-// Places in the table.
-pub(crate) const SET_SPEED: usize = 0;
+// In the order of document 01, in which a word is tried.
+#[derive(Clone, Copy, Debug, PartialEq, Eq)]
+pub(crate) enum Kind {
+    SetSpeed,
+    SetBlossom,
+    AddDefectVertex,
+    FindObstacle,
+    Reset,
+    LoadDefectsExternal,
+    Grow,
+}
 
-pub(crate) const SET_BLOSSOM: usize = 1;
-
-pub(crate) const ADD_DEFECT_VERTEX: usize = 2;
-
-pub(crate) const FIND_OBSTACLE: usize = 3;
-
-pub(crate) const RESET: usize = 4;
-
-pub(crate) const LOAD_DEFECTS_EXTERNAL: usize = 5;
-
-pub(crate) const GROW: usize = 6;
-
-pub(crate) const COUNT: usize = 7;
+pub(crate) const KINDS: [Kind; 7] = [
+    Kind::SetSpeed,
+    Kind::SetBlossom,
+    Kind::AddDefectVertex,
+    Kind::FindObstacle,
+    Kind::Reset,
+    Kind::LoadDefectsExternal,
+    Kind::Grow,
+];
 
 // "Field A is bits 17..31, B bits 2..16."
 const A: Field = Field { at: 17, width: 15 };
@@ -33,77 +39,54 @@ const LENGTH: Field = Field { at: 6, width: 26 };
 
 const NO_FIELD: Field = Field { at: 6, width: 0 };
 
-const KINDS: [WordKind; 7] = [
-    // "SetSpeed: A node, speed bits 15..16, low bits 000."
-    WordKind {
-        low: 0b000,
-        lows: 3,
-        code: 0,
-        codes: 0,
-        a: A,
-        b: SPEED,
-    },
-    // "SetBlossom: A node, B blossom, low 01."
-    WordKind {
-        low: 0b01,
-        lows: 2,
-        code: 0,
-        codes: 0,
-        a: A,
-        b: B,
-    },
-    // "AddDefectVertex: A vertex, B node, low 10."
-    WordKind {
-        low: 0b10,
-        lows: 2,
-        code: 0,
-        codes: 0,
-        a: A,
-        b: B,
-    },
-    // "Extended, low bits 100, code in bits 3..5: 0 FindObstacle,
-    WordKind {
-        low: 0b100,
-        lows: 3,
-        code: 0,
-        codes: 3,
-        a: NO_FIELD,
-        b: NO_FIELD,
-    },
-    // 4 reset,
-    WordKind {
-        low: 0b100,
-        lows: 3,
-        code: 4,
-        codes: 3,
-        a: NO_FIELD,
-        b: NO_FIELD,
-    },
-    // 5 load (A layer),
-    WordKind {
-        low: 0b100,
-        lows: 3,
-        code: 5,
-        codes: 3,
-        a: A,
-        b: NO_FIELD,
-    },
-    // 6 Grow (length bits 6..31)."
-    WordKind {
-        low: 0b100,
-        lows: 3,
-        code: 6,
-        codes: 3,
-        a: LENGTH,
-        b: NO_FIELD,
-    },
-];
-
-pub(crate) fn kind_at(k: usize) -> WordKind
-    requires { k < 7 }
-    ensures { (result ≡ kind_at k) × Sound result }
+fn plain(low: u32, lows: u32, a: Field, b: Field) -> WordKind
+    ensures { result ≡ kind_of low lows 0 0 a b }
 {
-    KINDS[k]
+    WordKind {
+        low,
+        lows,
+        code: 0,
+        codes: 0,
+        a,
+        b,
+    }
+}
+
+fn extended(code: u32, a: Field) -> WordKind
+    ensures { result ≡ kind_of 4 3 code 3 a no_field }
+{
+    WordKind {
+        low: 0b100,
+        lows: 3,
+        code,
+        codes: 3,
+        a,
+        b: NO_FIELD,
+    }
+}
+
+impl Kind {
+    // What bits the words of a kind have.
+    pub(crate) fn bits(self) -> WordKind
+        ensures { (result ≡ kind_at (place self)) × Sound result }
+    {
+        match self {
+            // "SetSpeed: A node, speed bits 15..16, low bits 000."
+            Kind::SetSpeed => plain(0b000, 3, A, SPEED),
+            // "SetBlossom: A node, B blossom, low 01."
+            Kind::SetBlossom => plain(0b01, 2, A, B),
+            // "AddDefectVertex: A vertex, B node, low 10."
+            Kind::AddDefectVertex => plain(0b10, 2, A, B),
+            // "Extended, low bits 100, code in bits 3..5: 0 FindObstacle,
+            Kind::FindObstacle => extended(0, NO_FIELD),
+            // 4 reset,
+            Kind::Reset => extended(4, NO_FIELD),
+            // 5 load (A layer),
+            Kind::LoadDefectsExternal => extended(5, A),
+            // 6 Grow (length bits 6..31)."
+            Kind::Grow => extended(6, LENGTH),
+        }
+    }
 }
 
 // How many numbers a field of that width can hold.

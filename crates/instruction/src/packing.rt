@@ -1,12 +1,12 @@
 // The word that asks it. "The Rust packers lose or misplace high bits of large fields; ours give 13."
 ghost use Rattle.std.specs.Prelude.{◌≡◌, ◌<◌, ◌*◌, ◌^◌};
-ghost use Rattle.rules.specs.Numbers.{speed_code};
 ghost use Rattle.rules.specs.Words.{kind_at, word_of, packed, packed_reset};
 ghost use Rattle.instruction.specs.Sound.{Fits};
+ghost use Rattle.instruction.specs.Place.{place};
 ghost use Rattle.instruction.specs.Packing.{packed_as};
 
-use crate::kinds;
-use rules::instruction::{CompactGrowState, Instruction, Packed, WordKind};
+use crate::kinds::{Kind, room};
+use rules::instruction::{Instruction, WordKind};
 use rules::refusal::Refusal;
 
 fn placed(value: u32, at: u32) -> u32
@@ -17,69 +17,59 @@ fn placed(value: u32, at: u32) -> u32
 }
 
 // The bits that each word of a kind has, and the two numbers in their fields.
-fn word_of(kind: WordKind, a: u32, b: u32) -> u32
-    requires { Fits kind a b }
-    ensures { result ≡ word_of kind a b }
+#[tactic(auto, unfolding(rules::specs::Words::word_of))]
+fn word_of(bits: WordKind, a: u32, b: u32) -> u32
+    requires { Fits bits a b }
+    ensures { result ≡ word_of bits a b }
 {
-    placed(a, kind.a.at) + (placed(b, kind.b.at) + (placed(kind.code, 3) + kind.low))
+    placed(a, bits.a.at) + (placed(b, bits.b.at) + (placed(bits.code, 3) + bits.low))
 }
 
-// The word of the k-th kind with a in A and b in B; 13 where one does not fit its field.
-fn pack_as(k: usize, a: u32, b: u32) -> Packed
-    requires { k < 7 }
-    ensures { result ≡ packed_as (kind_at k) a b }
+// The word of a kind with a in A and b in B; 13 where one does not fit its field.
+#[tactic(auto, using(crate::proofs::Fields::fits))]
+fn pack_as(kind: Kind, a: u32, b: u32) -> Result<u32, Refusal>
+    ensures { result ≡ packed_as (kind_at (place kind)) a b }
 {
-    let kind = kinds::kind_at(k);
-    if kinds::room(kind.a.width) <= a {
-        return Packed::Refused(Refusal::OutOfBounds);
+    let bits = kind.bits();
+    if room(bits.a.width) <= a || room(bits.b.width) <= b {
+        return Err(Refusal::OutOfBounds);
     }
-    if kinds::room(kind.b.width) <= b {
-        return Packed::Refused(Refusal::OutOfBounds);
-    }
-    Packed::Word(word_of(kind, a, b))
+    Ok(word_of(bits, a, b))
 }
 
-fn speed_code(speed: CompactGrowState) -> u32
-    ensures { result ≡ speed_code speed }
-{
-    match speed {
-        CompactGrowState::Stay => 0,
-        CompactGrowState::Grow => 1,
-        CompactGrowState::Shrink => 2,
-    }
-}
-
-pub fn pack(instruction: Instruction) -> Packed
+#[tactic(auto, using(crate::proofs::Bounds::packing))]
+pub fn pack(instruction: Instruction) -> Result<u32, Refusal>
     ensures { result ≡ packed instruction }
 {
     match instruction {
         Instruction::SetSpeed { node, speed } => pack_as(
-            kinds::SET_SPEED,
-            node.0 as u32,
-            speed_code(speed),
+            Kind::SetSpeed,
+            u32::from(node.0),
+            u32::from(speed),
         ),
         Instruction::SetBlossom { node, blossom } => pack_as(
-            kinds::SET_BLOSSOM,
-            node.0 as u32,
-            blossom.0 as u32,
+            Kind::SetBlossom,
+            u32::from(node.0),
+            u32::from(blossom.0),
         ),
         Instruction::AddDefectVertex { vertex, node } => pack_as(
-            kinds::ADD_DEFECT_VERTEX,
-            vertex.0 as u32,
-            node.0 as u32,
+            Kind::AddDefectVertex,
+            u32::from(vertex.0),
+            u32::from(node.0),
         ),
-        Instruction::FindObstacle => pack_as(kinds::FIND_OBSTACLE, 0, 0),
-        Instruction::Grow { length } => pack_as(kinds::GROW, length, 0),
+        Instruction::FindObstacle => pack_as(Kind::FindObstacle, 0, 0),
+        Instruction::Grow { length } => pack_as(Kind::Grow, length, 0),
         Instruction::LoadDefectsExternal { time } => pack_as(
-            kinds::LOAD_DEFECTS_EXTERNAL,
-            time.0 as u32,
+            Kind::LoadDefectsExternal,
+            u32::from(time.0),
             0,
         ),
     }
 }
 
-pub fn pack_reset() -> Packed
+#[tactic(auto, using(crate::proofs::Bounds::reset_packs))]
+pub fn pack_reset() -> Result<u32, Refusal>
     ensures { result ≡ packed_reset }
 {
-    pack_as(kinds::RESET, 0, 0)
+    pack_as(Kind::Reset, 0, 0)
 }

@@ -1,41 +1,40 @@
 // What a word asks.
 ghost use Rattle.std.specs.Prelude.{◌≡◌, ◌<◌, ◌^◌};
-ghost use Rattle.rules.specs.Words.{field_of, is_kind, speed_asked, asks, unpacked};
-ghost use Rattle.instruction.specs.Sound.{Sound};
+ghost use Rattle.rules.specs.Words.{field_of, is_kind, kind_at, speed_asked, asks, unpacked};
+ghost use Rattle.instruction.specs.Place.{place};
 
-use crate::kinds;
+use crate::kinds::{KINDS, Kind, room};
 use rules::index::{LayerId, NodeIndex, VertexIndex};
-use rules::instruction::{CompactGrowState, Field, Instruction, Unpacked, WordKind};
+use rules::instruction::{Asked, CompactGrowState, Field, Instruction};
 use rules::refusal::Refusal;
 
+#[tactic(auto, unfolding(rules::specs::Words::field_of))]
 fn read_field(word: u32, field: Field) -> u32
     requires { (field.at < 32) × (field.width < 32) }
     ensures { result ≡ field_of field word }
 {
-    (word >> field.at) % kinds::room(field.width)
+    (word >> field.at) % room(field.width)
 }
 
-fn is_kind(kind: WordKind, word: u32) -> bool
-    requires { Sound kind }
-    ensures { result ≡ is_kind kind word }
+#[tactic(auto, using(laws::specs::Tests::tests), unfolding(rules::specs::Words::is_kind))]
+fn is_kind(kind: Kind, word: u32) -> bool
+    ensures { result ≡ is_kind (kind_at (place kind)) word }
 {
+    let bits = kind.bits();
     let low = Field {
         at: 0,
-        width: kind.lows,
+        width: bits.lows,
     };
     let code = Field {
         at: 3,
-        width: kind.codes,
+        width: bits.codes,
     };
-    if read_field(word, low) == kind.low {
-        read_field(word, code) == kind.code
-    } else {
-        false
-    }
+    read_field(word, low) == bits.low && read_field(word, code) == bits.code
 }
 
 // "Speed 3 [gives] 12."
-fn speed_asked(node: NodeIndex, code: u16) -> Unpacked
+#[tactic(auto, using(crate::proofs::Unpacking::no_speed), unfolding(rules::specs::Words::speed_asked))]
+fn speed_asked(node: NodeIndex, code: u16) -> Result<Asked, Refusal>
     ensures { result ≡ speed_asked node code }
 {
     let speed = match code {
@@ -43,55 +42,52 @@ fn speed_asked(node: NodeIndex, code: u16) -> Unpacked
         1 => CompactGrowState::Grow,
         2 => CompactGrowState::Shrink,
         _ => {
-            return Unpacked::Refused(Refusal::NotCarried);
+            return Err(Refusal::NotCarried);
         }
     };
-    Unpacked::Says(Instruction::SetSpeed { node, speed })
+    Ok(Asked::Says(Instruction::SetSpeed { node, speed }))
 }
 
-// What the k-th kind asks with the indices a in A and b in B.
-fn asked_of(k: usize, a: u16, b: u16) -> Unpacked
-    requires { k < 6 }
-    ensures { result ≡ asks k a b }
+// What a kind asks with a in A and b in B: a length for Grow, indices for the others.
+#[tactic(auto, unfolding(rules::specs::Words::asks))]
+fn asked(kind: Kind, a: u32, b: u32) -> Result<Asked, Refusal>
+    requires { (place kind < 6 → a < 2 ^ 16) × (b < 2 ^ 16) }
+    ensures { result ≡ asks (place kind) a b }
 {
-    match k {
-        kinds::SET_SPEED => speed_asked(NodeIndex(a), b),
-        kinds::SET_BLOSSOM => Unpacked::Says(Instruction::SetBlossom {
-            node: NodeIndex(a),
-            blossom: NodeIndex(b),
-        }),
-        kinds::ADD_DEFECT_VERTEX => Unpacked::Says(Instruction::AddDefectVertex {
-            vertex: VertexIndex(a),
-            node: NodeIndex(b),
-        }),
-        kinds::FIND_OBSTACLE => Unpacked::Says(Instruction::FindObstacle),
-        kinds::RESET => Unpacked::Reset,
-        _ => Unpacked::Says(Instruction::LoadDefectsExternal { time: LayerId(a) }),
-    }
-}
-
-// What the k-th kind asks with a in A and b in B: a length for Grow, indices for the others.
-fn asked(k: usize, a: u32, b: u32) -> Unpacked
-    requires { (k < 7) × (b < 2 ^ 16) × (k < 6 → a < 2 ^ 16) }
-    ensures { result ≡ asks k a b }
-{
-    if k == kinds::GROW {
-        return Unpacked::Says(Instruction::Grow { length: a });
-    }
-    asked_of(k, a as u16, b as u16)
+    let instruction = match kind {
+        Kind::SetSpeed => {
+            return speed_asked(NodeIndex(a as u16), b as u16);
+        }
+        Kind::SetBlossom => Instruction::SetBlossom {
+            node: NodeIndex(a as u16),
+            blossom: NodeIndex(b as u16),
+        },
+        Kind::AddDefectVertex => Instruction::AddDefectVertex {
+            vertex: VertexIndex(a as u16),
+            node: NodeIndex(b as u16),
+        },
+        Kind::FindObstacle => Instruction::FindObstacle,
+        Kind::Reset => {
+            return Ok(Asked::Reset);
+        }
+        Kind::LoadDefectsExternal => Instruction::LoadDefectsExternal {
+            time: LayerId(a as u16),
+        },
+        Kind::Grow => Instruction::Grow { length: a },
+    };
+    Ok(Asked::Says(instruction))
 }
 
 // The first kind that the word has says what it asks. "Other codes, low 11 and speed 3 give 12."
-pub fn unpack(word: u32) -> Unpacked
+#[tactic(auto, using(crate::proofs::Unpacking::reading, crate::proofs::Unpacking::at_place))]
+pub fn unpack(word: u32) -> Result<Asked, Refusal>
     ensures { result ≡ unpacked word }
 {
-    let mut k = 0;
-    while k < kinds::COUNT {
-        let kind = kinds::kind_at(k);
+    for kind in KINDS {
         if is_kind(kind, word) {
-            return asked(k, read_field(word, kind.a), read_field(word, kind.b));
+            let bits = kind.bits();
+            return asked(kind, read_field(word, bits.a), read_field(word, bits.b));
         }
-        k += 1;
     }
-    Unpacked::Refused(Refusal::NotCarried)
+    Err(Refusal::NotCarried)
 }

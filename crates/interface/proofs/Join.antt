@@ -1,8 +1,6 @@
 -- The reduction joins: any way of bracketing a row of findings gives the same, and no limit changes nothing on either side. The least of
 -- lengths minds neither their order nor that one comes twice.
-use Prim.Native.Nat.{ℕ, min, max}
-use mathlib.Core.Path.{◌≡◌, refl, ap}
-use native.Mathlib.Omega.{arith}
+use Rattle.std.proofs.Common.{ℕ, min, max, ◌≡◌, refl, ap, arith}
 use Rattle.rules.specs.Reduce.{least, reduce}
 use Rattle.rules.specs.declared.finding.Length.{Length}
 use Rattle.rules.specs.declared.finding.Length.TheVariants.{NoLimit, Ahead, Behind}

@@ -3,37 +3,20 @@
 
 ghost use Rattle.std.specs.Prelude.{◌≡◌};
 ghost use Rattle.rules.specs.Reduce as Reduce;
-ghost use Rattle.rules.specs.Search.{ordered, is_absent};
 ghost use Rattle.interface.specs.Order.{fixed_order};
 
-use rules::finding::{Finding, Length, Node, Side};
+use rules::finding::{Finding, Length};
 
 // "the least length"
 pub fn least(first: Length, second: Length) -> Length
     ensures { result ≡ Reduce.least first second }
 {
-    match first {
-        Length::NoLimit => second,
-        Length::Ahead(n) => match second {
-            Length::NoLimit => first,
-            Length::Ahead(m) => {
-                if m < n {
-                    return second;
-                }
-                first
-            }
-            Length::Behind(_) => second,
-        },
-        Length::Behind(n) => match second {
-            Length::NoLimit => first,
-            Length::Ahead(_) => first,
-            Length::Behind(m) => {
-                if n < m {
-                    return second;
-                }
-                first
-            }
-        },
+    match (first, second) {
+        (Length::NoLimit, length) | (length, Length::NoLimit) => length,
+        (Length::Ahead(n), Length::Ahead(m)) => Length::Ahead(n.min(m)),
+        (Length::Behind(n), Length::Behind(m)) => Length::Behind(n.max(m)),
+        (Length::Behind(_), Length::Ahead(_)) => first,
+        (Length::Ahead(_), Length::Behind(_)) => second,
     }
 }
 
@@ -41,40 +24,22 @@ pub fn least(first: Length, second: Length) -> Length
 pub fn reduce(first: Finding, second: Finding) -> Finding
     ensures { result ≡ Reduce.reduce first second }
 {
-    match first {
-        Finding::Conflict(_, _) => first,
-        Finding::GrowLength(a) => match second {
-            Finding::Conflict(_, _) => second,
-            Finding::GrowLength(b) => Finding::GrowLength(least(a, b)),
-        },
+    match (first, second) {
+        (Finding::GrowLength(a), Finding::GrowLength(b)) => Finding::GrowLength(least(a, b)),
+        (Finding::Conflict(_, _), _) => first,
+        (_, Finding::Conflict(_, _)) => second,
     }
-}
-
-fn is_absent(node: Node) -> bool
-    ensures { result ≡ is_absent node }
-{
-    match node {
-        Node::Absent => true,
-        Node::Number(_) => false,
-    }
-}
-
-fn order(first: Side, second: Side) -> Finding
-    ensures { result ≡ ordered first second }
-{
-    let node = first.node;
-    if is_absent(node) {
-        return Finding::Conflict(second, first);
-    }
-    Finding::Conflict(first, second)
 }
 
 // "swap the sides if the first node is absent"
+#[tactic(auto, unfolding(laws::specs::Choice::pick))]
 pub fn fix_conflict_order(finding: Finding) -> Finding
     ensures { result ≡ fixed_order finding }
 {
     match finding {
-        Finding::GrowLength(_) => finding,
-        Finding::Conflict(first, second) => order(first, second),
+        Finding::Conflict(first, second) if first.node.is_none() => {
+            Finding::Conflict(second, first)
+        }
+        _ => finding,
     }
 }

@@ -1,33 +1,13 @@
 -- One edge more: it is the last of each end's, and no other vertex has it.
-use Prim.Native.Nat.{ℕ, ◌+◌, ◌*◌, ◌/◌, ◌%◌, ◌<◌}
-use mathlib.Core.Path.{◌≡◌, refl, sym, ap, ◌∙◌}
-use mathlib.Core.Bool.{Bool, true, false}
-use mathlib.Core.List.{List, [], ◌∷◌, ◌++◌}
-use native.Mathlib.Numerals.{add-one}
-use native.Mathlib.Omega.{arith}
-use lib.Dec.{eqb}
-use lib.ListN.{length, set, length-append}
-use borrow.Author.Tests.{eq-eqb, ne_eqb}
+use Rattle.std.proofs.Common.{ℕ, ◌+◌, ◌*◌, ◌/◌, ◌%◌, ◌<◌, ◌≡◌, refl, sym, ap, ◌∙◌, Bool, true, false, List, [], ◌∷◌, ◌++◌, add-one, arith, length, set, length-append, eq-eqb, ne_eqb}
 use Rattle.laws.specs.Choice.{◌or◌, pick}
 use Rattle.laws.specs.Stored.{set_two}
 use Rattle.laws.specs.Lists.{map_end, map_rest, indices_more, indices_skip}
 use Rattle.rules.specs.Graph.{left_of, right_of, touches, far_end}
+use Rattle.places.specs.Ends.{touches_left, touches_right}
 use Rattle.places.specs.Places.{touching, place_word, place_at, places_of, degrees_of}
 
 module _ (es : List ℕ) (e : ℕ) where
-  touches_left : touches es (left_of es e) e ≡ true
-  unfolding touches ◌or◌
-  touches_left = rw (eq-eqb (left_of es e) (left_of es e) refl)
-
-  or_true : (b : Bool) → (b or true) ≡ true
-  unfolding ◌or◌
-  or_true true = refl
-  or_true false = refl
-
-  touches_right : touches es (right_of es e) e ≡ true
-  unfolding touches
-  touches_right = rw (eq-eqb (right_of es e) (right_of es e) refl) (or_true (eqb (left_of es e) (right_of es e)))
-
   touches_other : (v : ℕ) → (v ≡ left_of es e → ⊥) → (v ≡ right_of es e → ⊥) → touches es v e ≡ false
   unfolding touches ◌or◌
   touches_other v p q = rw (ne_eqb (left_of es e) v (λ z. p (sym z)), ne_eqb (right_of es e) v (λ z. q (sym z)))
@@ -83,7 +63,7 @@ module _ (es : List ℕ) (e : ℕ) where
     unfolding degrees_of
     more_degrees =
         set_two (λ v. length (touching es e v)) (λ v. length (touching es (e + 1) v)) 256 left right (size left + 1) (size right + 1)
-        (size_more left touches_left) (size_more right touches_right) (λ v p q. ap length (sym (touching_same v (touches_other v p q))))
+        (size_more left (touches_left es e)) (size_more right (touches_right es e)) (λ v p q. ap length (sym (touching_same v (touches_other v p q))))
 
     module _ (l : size left < 16) (r : size right < 16) where
       kept : (p : ℕ) → (p ≡ left * 16 + size left → ⊥) → (p ≡ right * 16 + size right → ⊥) → touches es (p / 16) e ≡ true → p % 16 ≡ size (p / 16) → ⊥
@@ -96,6 +76,6 @@ module _ (es : List ℕ) (e : ℕ) where
       unfolding places_of place_word
       more_places =
           set_two (place_at es e) (place_at es (e + 1)) 4_096 (left * 16 + size left) (right * 16 + size right) (e + right * 1_024) (e + left * 1_024)
-          (place_new left touches_left l ∙ ap (λ (v : ℕ). e + v * 1_024) far_left)
-          (place_new right touches_right r ∙ ap (λ (v : ℕ). e + v * 1_024) (far_right apart))
+          (place_new left (touches_left es e) l ∙ ap (λ (v : ℕ). e + v * 1_024) far_left)
+          (place_new right (touches_right es e) r ∙ ap (λ (v : ℕ). e + v * 1_024) (far_right apart))
           (λ p x y. place_kept p (touches es (p / 16) e) refl (λ h m. kept p x y h m))

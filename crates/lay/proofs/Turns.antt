@@ -1,33 +1,26 @@
 -- What one edge more does to the degrees and places, over variables: the code's test is `fits`, and its stores are one edge more.
-use Prim.Native.Nat.{ℕ, ◌+◌, ◌*◌, ◌<◌}
-use mathlib.Core.Path.{◌≡◌, refl, sym, ◌∙◌}
-use mathlib.Core.Bool.{true, false}
-use mathlib.Core.List.{List}
-use native.Mathlib.Numerals.{add-one}
-use native.Mathlib.Omega.{arith}
-use lib.ListN.{length, get_or, set}
+use Rattle.std.proofs.Common.{ℕ, ◌+◌, ◌*◌, ◌<◌, ◌≡◌, refl, sym, ◌∙◌, true, false, List, add-one, arith, length, get_or, set, replicate}
 use Rattle.laws.specs.Fold.{up_to}
 use Rattle.laws.specs.Leading.{leading_none, leading_pass, leading_stop}
 use Rattle.laws.specs.Listed.{indices}
-use Rattle.laws.specs.Table.{table}
+use Rattle.laws.specs.Stored.{blank_table}
 use Rattle.rules.specs.Graph.{left_of, right_of, degree, fits, edges_in_use}
 use Rattle.places.specs.Ends.{left, right, beyond, reach_of}
 use Rattle.places.specs.Places.{touching, place_at, places_of, degrees_of}
 use Rattle.places.specs.Tie.{length_touching, degree_at}
 use Rattle.board.specs.Board.{part_at, degrees_on}
-use Rattle.lay.specs.Filled.{none}
 use Rattle.lay.specs.Put.{taken, has_room}
 use Rattle.lay.proofs.Grown.{more_degrees, more_places}
 use Rattle.lay.proofs.Room.{apart, left_room, right_room}
 
 module _ (es : List ℕ) where
-  pub start_degrees : table 256 none ≡ degrees_of es 0
+  pub start_degrees : replicate 256 0 ≡ degrees_of es 0
   unfolding degrees_of touching indices
-  start_degrees = refl
+  start_degrees = blank_table 256 0
 
-  pub start_places : table 4_096 none ≡ places_of es 0
+  pub start_places : replicate 4_096 0 ≡ places_of es 0
   unfolding places_of place_at touching indices
-  start_places = refl
+  start_places = blank_table 4_096 0
 
   pub start_reach : 0 ≡ reach_of es 0
   unfolding reach_of up_to
@@ -78,11 +71,11 @@ module _ (es : List ℕ) (e : ℕ) (r : List ℕ) (d : degrees_on r ≡ degrees_
 
     left_free : length (touching es e (left_of es e)) < 16
     unfolding left_of
-    left_free = rw left_size at (left_room r word h)
+    left_free = rw left_size at (left_room r word h _ refl)
 
     right_free : length (touching es e (right_of es e)) < 16
     unfolding right_of
-    right_free = rw right_size at (right_room r word h)
+    right_free = rw right_size at (right_room r word h _ refl)
 
     pub turn_use : edges_in_use es e ≡ e → edges_in_use es (e + 1) ≡ e + 1
     unfolding edges_in_use

@@ -1,20 +1,14 @@
 -- The board after each edge, and after all of them.
-use Prim.Native.Nat.{ℕ, ◌+◌, ◌*◌, ◌≤◌, ◌<◌, min}
-use mathlib.Core.Path.{◌≡◌, refl, sym, ◌∙◌}
-use mathlib.Core.Bool.{Bool, true, false, not}
-use mathlib.Core.List.{List, [], ◌∷◌}
-use native.Mathlib.Omega.{arith}
-use lib.ListN.{length, get_or, set, length-set}
-use lib.Seq.{get_or-set_other}
-use borrow.Author.Tests.{not-true, not-false}
+use Rattle.std.proofs.Common.{ℕ, ◌+◌, ◌*◌, ◌≤◌, ◌<◌, min, ◌≡◌, refl, sym, ◌∙◌, Bool, true, false, List, [], ◌∷◌, arith, length, get_or, set, length-set, replicate, take, drop, length-take, length-drop, get_or-set_other}
+use lib.ListN.{length-replicate}
 use Rattle.rules.specs.Graph.{edges_in_use, in_use}
 use Rattle.places.specs.Ends.{ends, left, right, beyond}
 use Rattle.places.specs.Places.{places_of, degrees_of}
+use Rattle.places.specs.Wired.{wired_within}
 use Rattle.board.specs.Board.{part, vertices_on, degrees_on, edges_on, units_on, places_on, defaults_on, nv_on, ne_on, nu_on, reach_on, graph_on, Laid}
-use Rattle.lay.specs.Filled.{none, filled}
 use Rattle.lay.specs.Put.{taken, has_room, put_on}
 use Rattle.lay.specs.Placing.{Cleared, Kept, Placing, PlacedAll}
-use Rattle.lay.proofs.Parts.{part_same, store_in, store_out, length_filled, outside, fill_in, fill_out}
+use Rattle.lay.proofs.Parts.{part_same, store_in, store_out, over, length_over, over_other, over_in, over_out}
 use Rattle.lay.proofs.Room.{left_room, right_room}
 use Rattle.lay.proofs.Turns.{start_degrees, start_places, start_reach, start_use, turn_reach, turn_use, turn_degrees, turn_places, stops}
 
@@ -114,10 +108,10 @@ module _ (b r : List ℕ) (e s w : ℕ) (g : Placing b r e s) (at : w ≡ get_or
 
   module _ (h : has_room r w ≡ true) where
     lp : left w * 16 + taken r (left w) < 4_096
-    lp = omega (arith, left_room r w h)
+    lp = omega (arith, left_room r w h _ refl)
 
     lq : right w * 16 + taken r (right w) < 4_096
-    lq = omega (arith, right_room r w h)
+    lq = omega (arith, right_room r w h _ refl)
 
     has : has_room r (get_or es e 0) ≡ true
     has = rw (← word_is) h
@@ -161,21 +155,18 @@ start b c = record {
   reached = start_reach (edges_on b);
 }
 
-pub room : (r : List ℕ) (w : ℕ) (t : Bool) → t ≡ has_room r w → not t ≡ false → has_room r w ≡ true
-room r w t x h = sym x ∙ not-false t h
-
 -- the stores stand first: they name the rest
-pub turn : (b r : List ℕ) (e s s' w : ℕ) (t : Bool) {r' : List ℕ} → r' ≡ put_on r e w → Placing b r e s → w ≡ get_or (edges_on r) e 0 → t ≡ has_room r w → not t ≡ false
+pub turn : (b r : List ℕ) (e s s' w : ℕ) (t : Bool) {r' : List ℕ} → r' ≡ put_on r e w → Placing b r e s → w ≡ get_or (edges_on r) e 0 → t ≡ has_room r w → t ≡ true
     → s' ≡ beyond s w → Placing b r' (e + 1) s'
-turn b r e s s' w t p g at x h y = rw p (placed_one b r e s w g at (room r w t x h) s' y)
+turn b r e s s' w t p g at x h y = rw p (placed_one b r e s w g at (sym x ∙ h) s' y)
 
 near : {b r : List ℕ} {e s : ℕ} → Placing b r e s → s ≤ 256
 near {b} {r} {e} g = rw g.reached (ends (edges_on b) e).small
 
-pub stop : (b r : List ℕ) (e s w n : ℕ) (t : Bool) → Placing b r e s → w ≡ get_or (edges_on r) e 0 → t ≡ has_room r w → not t ≡ true → e < n → n ≡ ne_on b → PlacedAll b r e s
+pub stop : (b r : List ℕ) (e s w n : ℕ) (t : Bool) → Placing b r e s → w ≡ get_or (edges_on r) e 0 → t ≡ has_room r w → t ≡ false → e < n → n ≡ ne_on b → PlacedAll b r e s
 stop b r e s w n t g at x h l m = record {
   placing = g;
-  all = sym (stops (edges_on b) e r g.degrees (ne_on b) (rw (← word_is b r e s w g at) (sym x ∙ not-true t h)) g.used (omega arith));
+  all = sym (stops (edges_on b) e r g.degrees (ne_on b) (rw (← word_is b r e s w g at) (sym x ∙ h)) g.used (omega arith));
   few = omega arith;
   near = near g;
 }
@@ -183,28 +174,49 @@ stop b r e s w n t g at x h l m = record {
 pub done : (b r : List ℕ) (e s n : ℕ) → Placing b r e s → e ≤ n → n ≤ e → n ≡ ne_on b → PlacedAll b r e s
 done b r e s n g l h m = record { placing = g; all = let z : ne_on b ≡ e = omega arith in rw z (sym g.used); few = omega arith; near = near g }
 
-pub ruleset placings = (start, room, turn, stop, done)
+pub ruleset placings = (start, turn, stop, done)
 
--- ---- cleared
+-- ---- cleared: degrees first, then places
 
-module _ (b b' c : List ℕ) (p : b' ≡ filled none 272 b 256) (q : c ≡ filled none 3_600 b' 4_096) (long : length b ≡ 8_720) where
-  long' : length b' ≡ 8_720
-  long' = rw p (length_filled none 272 b 256 ∙ long)
+module _ (b xs ys : List ℕ) where
+  abbrev pub once : List ℕ
+  once = over 272 256 b xs
 
-  pub cleared : Cleared c
-  unfolding degrees_on places_on
-  cleared = record {
-    long = rw q (length_filled none 3_600 b' 4_096 ∙ long');
-    degrees =
-        rw q (fill_out none 3_600 b' 256 272 4_096 (λ i l u h. omega arith) ∙ rw p (fill_in none 272 b 256 (omega (arith, long))));
-    places = rw q (fill_in none 3_600 b' 4_096 (omega (arith, long')));
-  }
+  abbrev pub twice : List ℕ
+  twice = over 3_600 4_096 once ys
 
-  cleared_kept : Kept b c
-  cleared_kept = record {
-    long = cleared.long;
-    same = λ j x y. rw q (outside none 3_600 b' j 4_096 (λ l h. y l (omega arith)) ∙ rw p (outside none 272 b j 256 (λ l h. x l (omega arith))));
-  }
+  module _ (e : xs ≡ replicate (length (take 256 (drop 272 b))) 0) (f : ys ≡ replicate (length (take 4_096 (drop 3_600 once))) 0) (long : length b ≡ 8_720) where
+    xs_is : xs ≡ replicate 256 0
+    xs_is = let n : length (take 256 (drop 272 b)) ≡ 256 = omega (arith, long, length-take 256 (drop 272 b), length-drop 272 b) in rw n at e
+
+    xs_long : length xs ≡ 256
+    xs_long = rw xs_is (length-replicate {A = ℕ} 256 0)
+
+    once_long : length once ≡ 8_720
+    once_long = length_over 272 256 b xs xs_long (omega (arith, long)) ∙ long
+
+    ys_is : ys ≡ replicate 4_096 0
+    ys_is = let n : length (take 4_096 (drop 3_600 once)) ≡ 4_096 = omega (arith, once_long, length-take 4_096 (drop 3_600 once), length-drop 3_600 once) in rw n at f
+
+    ys_long : length ys ≡ 4_096
+    ys_long = rw ys_is (length-replicate {A = ℕ} 4_096 0)
+
+    room : 4_096 + 3_600 ≤ length once
+    room = omega (arith, once_long)
+
+    pub cleared : Cleared twice
+    unfolding degrees_on places_on
+    cleared = record {
+      long = length_over 3_600 4_096 once ys ys_long room ∙ once_long;
+      degrees = over_out 3_600 4_096 once ys ys_long room 256 272 (λ i l u h. omega arith) ∙ over_in 272 256 b xs xs_long (omega (arith, long)) ∙ xs_is;
+      places = over_in 3_600 4_096 once ys ys_long room ∙ ys_is;
+    }
+
+    cleared_kept : Kept b twice
+    cleared_kept = record {
+      long = cleared.long;
+      same = λ j x y. over_other 3_600 4_096 once ys ys_long room j (λ l h. y l (omega arith)) ∙ over_other 272 256 b xs xs_long (omega (arith, long)) j (λ l h. x l (omega arith));
+    }
 
 -- ---- the counts
 
@@ -265,13 +277,8 @@ module _ (b c r : List ℕ) (nv ne nu reach : ℕ) (k : Kept b c) (g : PlacedAll
 
   is_laid : Laid out
   is_laid = record {
-    wired = record {
-      limit = ne_on c;
-      small = omega arith;
-      used = rw (edges_out, ne_out) g.all;
-      listed = rw (edges_out, ne_out) places_out;
-      counted = rw (edges_out, ne_out) degrees_out;
-    };
+    wired =
+        rw (edges_out, ne_out) (wired_within (edges_on c) (ne_on c) ne (omega arith) g.all places_out degrees_out);
     ends = rw (edges_out, ne_out, reach_out, g.placing.reached) (ends (edges_on c) ne);
   }
 
@@ -292,7 +299,8 @@ module _ (b c r : List ℕ) (nv ne nu reach : ℕ) (k : Kept b c) (g : PlacedAll
   is_graph = rw (nv_is, ne_is, nu_is, vertices_out, edges_out, edges_kept k, units_out, defaults_out)
 
 -- as the code does it, step by step
-pub wires : (b b' c r : List ℕ) (nv ne nu reach : ℕ) → length b ≡ 8_720 → b' ≡ filled none 272 b 256 → c ≡ filled none 3_600 b' 4_096 → PlacedAll c r ne reach → nv ≡ nv_on b → nu ≡ nu_on b
+pub wires : (b xs ys r : List ℕ) (nv ne nu reach : ℕ) → xs ≡ replicate (length (take 256 (drop 272 b))) 0 → ys ≡ replicate (length (take 4_096 (drop 3_600 (once b xs ys)))) 0
+    → length b ≡ 8_720 → PlacedAll (twice b xs ys) r ne reach → nv ≡ nv_on b → nu ≡ nu_on b
     → Laid (counted nv ne nu reach r) × (graph_on (counted nv ne nu reach r) ≡ in_use (graph_on b))
-wires b b' c r nv ne nu reach long p q g ev eu =
-    let k = cleared_kept b b' c p q long in (is_laid b c r nv ne nu reach k g ev eu, is_graph b c r nv ne nu reach k g ev eu)
+wires b xs ys r nv ne nu reach e f long g ev eu =
+    let k = cleared_kept b xs ys e f long in (is_laid b (twice b xs ys) r nv ne nu reach k g ev eu, is_graph b (twice b xs ys) r nv ne nu reach k g ev eu)

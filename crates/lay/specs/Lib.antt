@@ -1,3 +1,2 @@
-pub mod Filled
 pub mod Placing
 pub mod Put

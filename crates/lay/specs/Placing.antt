@@ -1,17 +1,15 @@
--- Places made on a board edge by edge, where b is the board at first, and r the board by now.
-use Rattle.std.specs.Prelude.{ℕ, ◌≤◌, ◌<◌, ◌≡◌, List, length, get_or}
-use Rattle.laws.specs.Table.{table}
+-- Places made in a table edge by edge, where b is the table at first, and r the table by now.
+use Rattle.std.specs.Prelude.{ℕ, ◌≤◌, ◌<◌, ◌≡◌, List, length, replicate, get_or}
 use Rattle.rules.specs.Graph.{edges_in_use}
 use Rattle.places.specs.Ends.{reach_of}
 use Rattle.places.specs.Places.{places_of, degrees_of}
 use Rattle.board.specs.Board.{ne_on, edges_on, degrees_on, places_on}
-use Rattle.lay.specs.Filled.{none}
 
 -- no place is taken
 pub record Cleared (b : List ℕ) : Type 0 where
   pub long : length b ≡ 8_720
-  pub degrees : degrees_on b ≡ table 256 none
-  pub places : places_on b ≡ table 4_096 none
+  pub degrees : degrees_on b ≡ replicate 256 0
+  pub places : places_on b ≡ replicate 4_096 0
 
 -- all but degrees and places is as it was
 pub record Kept (b r : List ℕ) : Type 0 where

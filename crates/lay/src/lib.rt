@@ -3,46 +3,33 @@
 
 pub mod wire;
 
-ghost use Rattle.std.specs.Prelude.{◌≡◌, ◌+◌, ◌≤◌, length};
-ghost use Rattle.laws.specs.Table.{table};
+ghost use Rattle.std.specs.Prelude.{◌≡◌};
 ghost use Rattle.rules.specs.Graph.{in_use};
-ghost use Rattle.board.specs.Board.{graph_on, Laid};
-ghost use Rattle.lay.specs.Filled.{none, at, filled};
+ghost use Rattle.board.specs.Board.{graph_on};
 
 use crate::wire::wire;
-use board::Board;
-use rules::graph::{Graph, at_most};
+use board::{Board, Table};
+use rules::graph::Graph;
 
-fn blank() -> Board
-    ensures { result ≡ table 8_720 none }
+// A graph's counts and tables, each in its place.
+fn copy(graph: &Graph, table: &mut Table)
+    ensures { in_use (graph_on table.new) ≡ in_use graph.now }
 {
-    [0u32; 8720]
-}
-
-// A table from k on.
-fn copy(from: &[u32], k: usize, board: &mut Board)
-    requires { length from.now + k ≤ 8_720 }
-    ensures { board.new ≡ filled (at from.now) k board.old (length from.now) }
-{
-    let mut i = 0;
-    while i < from.len() {
-        board[i + k] = from[i];
-        i += 1;
-    }
+    table[0] = graph.nv.min(256) as u32;
+    table[1] = graph.ne.min(1_024) as u32;
+    table[2] = graph.nu.min(2_048) as u32;
+    table[16..272].copy_from_slice(&graph.vertices);
+    table[528..1_552].copy_from_slice(&graph.edges);
+    table[1_552..3_600].copy_from_slice(&graph.units);
+    table[7_696..].copy_from_slice(&graph.weights);
 }
 
 // All of it is in use.
 pub fn lay(graph: Graph) -> Board
-    ensures { Laid result × (graph_on result ≡ in_use graph) }
+    ensures { graph_on result.table ≡ in_use graph }
 {
-    let mut board = blank();
-    board[0] = at_most(graph.nv, 256) as u32;
-    board[1] = at_most(graph.ne, 1_024) as u32;
-    board[2] = at_most(graph.nu, 2_048) as u32;
-    copy(&graph.vertices, 16, &mut board);
-    copy(&graph.edges, 528, &mut board);
-    copy(&graph.units, 1_552, &mut board);
-    copy(&graph.weights, 7_696, &mut board);
-    wire(&mut board);
-    board
+    let mut table = [0u32; 8720];
+    copy(&graph, &mut table);
+    wire(&mut table);
+    Board { table }
 }

@@ -1,16 +1,10 @@
 -- How many digits a number has, and its digits from the last to the first.
-use Prim.Native.Nat.{ℕ, zero, suc, ◌+◌, ◌*◌, ◌-◌, ◌/◌, ◌%◌, ◌^◌, ◌≤◌, ◌<◌}
-use mathlib.Core.Path.{◌≡◌, refl, sym, ap, ◌∙◌}
-use mathlib.Core.List.{List, [], ◌∷◌, ◌++◌}
-use native.Mathlib.Nat.{pow-suc, pow-succ', one-le-pow}
-use native.Mathlib.Numerals.{add-one}
-use native.Mathlib.Omega.{arith}
-use borrow.Author.Tests.{ltb-true, ltb-false}
-use lib.Dec.{ltb}
-use lib.ListN.{length, set, length-append}
-use Rattle.laws.specs.Choice.{by_test}
+use Rattle.std.specs.Prelude.{Option, Some, None, IfSome, IfNone, unwrap_or}
+use Rattle.std.proofs.Common.{ℕ, zero, suc, ◌+◌, ◌*◌, ◌-◌, ◌/◌, ◌%◌, ◌^◌, ◌≤◌, ◌<◌, ◌≡◌, List, [], ◌∷◌, ◌++◌, ltb, length, drop, set, refl, sym, ap, ◌∙◌, arith, add-one, ltb-true, ltb-false, length-append, append_assoc, append-nil}
+use Rattle.std.proofs.lemmas.List.{drop-set, drop_all}
+use Rattle.std.proofs.Math.Nat.{pow-succ', one-le-pow}
+use Rattle.laws.specs.Choice.{pick, by_test}
 use Rattle.rules.specs.Listing.{digits, decimal}
-use Rattle.laws.specs.Placed.{placed, Wrote, placed_none, placed_last, wrote_length}
 
 -- the last k digits of n
 unfoldable pub last_digits : ℕ → ℕ → List ℕ
@@ -25,13 +19,8 @@ digits_last (suc f) n =
     (λ t. let e : n ≡ n % 10 = omega (arith, ltb-true n 10 t) in ap (λ (d : ℕ). (48 + d) ∷ []) e)
     (λ t. rw (length-append, add-one) (ap (λ (l : List ℕ). l ++ ((48 + n % 10) ∷ [])) (digits_last f (n / 10))))
 
-length_last : (k n : ℕ) → length (last_digits k n) ≡ k
-unfolding last_digits
-length_last zero n = refl
-length_last (suc k) n = rw (length-append, length_last k (n / 10), add-one)
-
 -- a number below 10 ^ k has at most k digits
-pub at_most : (f k n : ℕ) → n < 10 ^ suc k → length (digits f n) ≤ suc k
+at_most : (f k n : ℕ) → n < 10 ^ suc k → length (digits f n) ≤ suc k
 unfolding digits
 at_most zero k n h = omega arith
 at_most (suc f) zero n h = by_test (λ (l : List ℕ). length l ≤ 1) (ltb n 10) (λ t. omega arith) (λ t. absurd (omega (arith, ltb-false n 10 t)))
@@ -40,12 +29,21 @@ at_most (suc f) (suc k) n h =
     (λ t. omega arith)
     (λ t. rw length-append (let i = at_most f k (n / 10) (omega (arith, pow-succ' 10 (suc k))) in omega arith))
 
+pub decimal_most : (n : ℕ) → n < 2 ^ 32 → length (decimal n) ≤ 10
+unfolding decimal
+decimal_most n h = at_most 10 9 n (omega arith)
+
+-- "V 1..256", "E 0..1,024": an edge's number has at most four digits
+pub edge_most : (e : ℕ) → e < 1_024 → length (decimal e) ≤ 4
+unfolding decimal
+edge_most e h = at_most 10 3 e (omega arith)
+
 -- every number has a digit, and one from 10 ^ k on has more than k
-pub some_digit : (f n : ℕ) → 0 < length (digits (suc f) n)
+some_digit : (f n : ℕ) → 0 < length (digits (suc f) n)
 unfolding digits
 some_digit f n = by_test (λ (l : List ℕ). 0 < length l) (ltb n 10) (λ t. omega arith) (λ t. rw length-append (omega arith))
 
-pub more_than : (f k n : ℕ) → n < 10 ^ f → 10 ^ k ≤ n → k < length (digits f n)
+more_than : (f k n : ℕ) → n < 10 ^ f → 10 ^ k ≤ n → k < length (digits f n)
 unfolding digits
 more_than zero k n h g = absurd (omega (arith, one-le-pow k 10 (omega arith)))
 more_than (suc f) zero n h g = some_digit f n
@@ -54,66 +52,36 @@ more_than (suc f) (suc k) n h g =
     (λ t. absurd (omega (arith, ltb-true n 10 t, pow-succ' 10 k, one-le-pow k 10 (omega arith))))
     (λ t. rw length-append (let i = more_than f k (n / 10) (omega (arith, pow-succ' 10 f)) (omega (arith, pow-succ' 10 k)) in omega arith))
 
--- room for the digits of a number below 10 ^ k, after a text that left k places
-module _ (n at mid : ℕ) (p x y : List ℕ) (w : Wrote p at x mid y) where
-  pub room_after : (k : ℕ) → n < 10 ^ suc k → at + length p + suc k ≤ length x → mid + length (decimal n) ≤ length y
-  unfolding decimal
-  room_after k h r = omega (arith, at_most 10 k n h, wrote_length w)
+one_digit : 1 ≡ length (decimal 0)
+unfolding decimal digits pick
+one_digit = refl
 
-module _ (n at mid : ℕ) (x y : List ℕ) where
-  pub room_after_space : Wrote (32 ∷ []) at x mid y → n < 2 ^ 32 → at + 11 ≤ length x → mid + length (decimal n) ≤ length y
-  room_after_space w h r = room_after n at mid _ x y w 9 (omega arith) (omega arith)
+as_wide : (n : ℕ) → n < 2 ^ 32 → (k : ℕ) → 10 ^ k ≤ n → n < 10 * 10 ^ k → k + 1 ≡ length (decimal n)
+unfolding decimal
+as_wide n h k least most = omega (arith, more_than 10 k n (omega arith) least, at_most 10 k n (omega (arith, pow-succ' 10 k)))
 
-  pub room_after_minus : Wrote (32 ∷ 45 ∷ []) at x mid y → n < 2 ^ 32 → at + 12 ≤ length x → mid + length (decimal n) ≤ length y
-  room_after_minus w h r = room_after n at mid _ x y w 9 (omega arith) (omega arith)
+-- the logarithm rounded down, and one more: 0 has one digit too
+pub width_is : (n : ℕ) → n < 2 ^ 32 → (log : Option ℕ) → IfNone log (n ≡ 0) → IfSome log (λ k. 10 ^ k ≤ n) → IfSome log (λ k. n < 10 * 10 ^ k)
+    → unwrap_or log 0 + 1 ≡ length (decimal n)
+width_is n h None none least most = rw none one_digit
+width_is n h (Some k) none least most = as_wide n h k least most
 
--- ---- what a loop's turns ask that counts the digits by the powers of ten
+-- ---- the digits that are left to put, and behind them those that are put
 
-module _ (n : ℕ) where
-  pub count_none : 1 ≤ length (decimal n)
-  unfolding decimal
-  count_none = some_digit 9 n
+pub spell_none : (n : ℕ) (out : List ℕ) → length out ≡ length (decimal n) → last_digits (length out) n ++ drop (length out) out ≡ decimal n
+unfolding decimal
+spell_none n out e = rw (drop_all (length out) out (omega arith), append-nil, e) (sym (digits_last 10 n))
 
-  pub count_power : (k : ℕ) {limit : ℕ} → limit ≡ 10 ^ k → limit * 10 ≡ 10 ^ (k + 1)
-  count_power k p = rw (add-one k, p) (sym (pow-suc 10 k))
+pub spell_step : (n i rest : ℕ) (out : List ℕ) → last_digits i rest ++ drop i out ≡ decimal n → 0 < i → i ≤ length out
+    → last_digits (i - 1) (rest / 10) ++ drop (i - 1) (set out (i - 1) (48 + rest % 10)) ≡ decimal n
+unfolding last_digits
+spell_step n zero rest out p h l = absurd (omega arith)
+spell_step n (suc i) rest out p h l =
+    let j : suc i - 1 ≡ i = omega arith in
+    let k : i < length out = omega arith in
+    rw (j, drop-set out i (48 + rest % 10) k, add-one i) (sym (append_assoc (last_digits i (rest / 10)) _ _) ∙ p)
 
-  pub count_step : (k : ℕ) {limit : ℕ} → limit ≡ 10 ^ k → limit ≤ n → n < 2 ^ 32 → k + 1 ≤ length (decimal n)
-  unfolding decimal
-  count_step k p h l = rw (add-one k) (more_than 10 k n (omega arith) (omega arith))
-
-  pub count_end : (k : ℕ) {limit : ℕ} → limit ≡ 10 ^ k → n < limit → 1 ≤ k → k ≤ length (decimal n) → k ≡ length (decimal n)
-  unfolding decimal
-  count_end zero p h g l = absurd (omega arith)
-  count_end (suc k) p h g l = omega (arith, at_most 10 k n (omega arith))
-
-pub ruleset counts = (count_none, count_power, count_step, count_end)
-
--- ---- what a loop's turns ask that stores the digits from the last to the first: the digits that are left make the text whole
-
-module _ (n at k : ℕ) (before : List ℕ) (e : k ≡ length (decimal n)) (room : at + length (decimal n) ≤ length before) where
-  pub spell_none : placed at (last_digits k n) before ≡ placed at (decimal n) before
-  unfolding decimal
-  spell_none = rw e (ap (λ (l : List ℕ). placed at l before) (sym (digits_last 10 n)))
-
-  pub spell_room : (i : ℕ) (out : List ℕ) → length out ≡ length before → 0 < i → i ≤ k → at + (i - 1) < length out
-  spell_room i out s h l = omega arith
-
-  pub spell_step : (i rest : ℕ) (out : List ℕ) → placed at (last_digits i rest) out ≡ placed at (decimal n) before → length out ≡ length before → 0 < i → i ≤ k
-      → placed at (last_digits (i - 1) (rest / 10)) (set out (at + (i - 1)) (48 + rest % 10)) ≡ placed at (decimal n) before
-  unfolding last_digits
-  spell_step zero rest out p s h l = absurd (omega arith)
-  spell_step (suc i) rest out p s h l =
-      let j : suc i - 1 ≡ i = omega arith in
-      let c = length_last i (rest / 10) in
-      rw j (rw c at (placed_last at (48 + rest % 10) (last_digits i (rest / 10)) out (omega arith) ∙ p))
-
-  pub spell_end : (i rest : ℕ) {out : List ℕ} → placed at (last_digits i rest) out ≡ placed at (decimal n) before → i ≤ 0 → Wrote (decimal n) at before (at + k) out
-  unfolding last_digits
-  spell_end zero rest {out} p h = record { end = ap (λ (x : ℕ). at + x) e; inside = omega arith; bytes = sym (placed_none at out) ∙ p }
-  spell_end (suc i) rest p h = absurd (omega arith)
-
-  pub spell_most : n < 2 ^ 32 → at + k ≤ at + 10
-  unfolding decimal
-  spell_most l = omega (arith, at_most 10 9 n (omega arith))
-
-pub ruleset spells = (spell_none, spell_room, spell_step, spell_end, spell_most)
+pub spell_end : (n i rest : ℕ) (out : List ℕ) → last_digits i rest ++ drop i out ≡ decimal n → i ≤ 0 → out ≡ decimal n
+unfolding last_digits
+spell_end n zero rest out p h = p
+spell_end n (suc i) rest out p h = absurd (omega arith)

@@ -1,6 +1,4 @@
-pub mod Copies
+pub mod Puts
 pub mod Digits
-pub mod Arms
-pub mod Edges
+pub mod Numbers
 pub mod Whole
-pub mod Answers

@@ -1,9 +1,8 @@
 -- What a listing starts with, without its line's end.
-use Rattle.std.specs.Prelude.{ℕ, ◌≡◌, refl, List, ◌∷◌, ◌++◌}
+use Rattle.std.specs.Prelude.{ℕ, ◌≡◌, refl, List, ◌∷◌, ◌++◌, Err}
 use Rattle.rules.specs.Listing.{number, line, first_line, listing_of}
 use Rattle.rules.specs.Numbers.{refusal_number}
 use Rattle.rules.specs.declared.graph.Graph.{Graph}
-use Rattle.rules.specs.declared.graph.Opening.TheVariants.{Refused}
 use Rattle.rules.specs.declared.refusal.Refusal.{Refusal}
 
 -- "mark, version, V, E, U"
@@ -18,5 +17,5 @@ bad_text r = 98 ∷ 97 ∷ 100 ∷ number (refusal_number r)
 pub first_is_head : (v e u : ℕ) → first_line v e u ≡ line (head_text v e u)
 first_is_head v e u = refl
 
-pub refused_is_bad : (bs : List ℕ) (g : Graph) (r : Refusal) → listing_of bs g (Refused r) ≡ line (bad_text r)
+pub refused_is_bad : (bs : List ℕ) (g : Graph) (r : Refusal) → listing_of bs g (Err r) ≡ line (bad_text r)
 refused_is_bad bs g r = refl

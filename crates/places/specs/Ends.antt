@@ -1,7 +1,6 @@
 -- The ends of edges, and how far those in use reach: no end of them stands at r or beyond, so a walk over the first r vertices meets every edge.
 use Rattle.std.specs.Prelude.{ℕ, ◌+◌, ◌≤◌, ◌<◌, ◌/◌, ◌%◌, max, ◌≡◌, refl, true, List, eqb, get_or}
-use native.Mathlib.Omega.{arith}
-use Rattle.std.proofs.Common.{eq-eqb}
+use Rattle.std.proofs.Common.{arith, eq-eqb}
 use Rattle.laws.specs.Fold.{up_to, up_to_each, up_to_keeps}
 use Rattle.laws.specs.Tests.{the_first, the_second}
 use Rattle.rules.specs.Graph.{left_of, right_of, touches}

@@ -1,14 +1,11 @@
 -- The tie: a walk over the places of v is the fold over all edges that touch v. The places hold those edges in order, and 16 are enough,
 -- since an edge in use is no end's 17th.
-use Prim.Native.Nat.{ℕ, zero, suc, ◌+◌, ◌*◌, ◌/◌, ◌%◌, ◌≤◌, ◌<◌}
-use Rattle.std.specs.Prelude.{◌≡◌, Bool, List, eqb, get_or}
+use Rattle.std.specs.Prelude.{ℕ, zero, suc, ◌+◌, ◌*◌, ◌/◌, ◌%◌, ◌≤◌, ◌<◌, ◌≡◌, Bool, List, eqb, get_or}
+use Rattle.std.proofs.Common.{◌∙◌, arith, eqb-true, ltb-true}
 use Rattle.std.proofs.Math.Path.{refl, ap}
-use Rattle.std.proofs.Common.{◌∙◌}
 use Rattle.std.proofs.Math.Bool.{true, false}
 use Rattle.std.proofs.Math.Option.{Option, none}
-use native.Mathlib.Omega.{arith}
 use Rattle.std.proofs.Math.ListN.{length}
-use borrow.Author.Tests.{eqb-true, ltb-true}
 use Rattle.laws.specs.Choice.{◌and◌, ◌or◌, pick, by_test, and_left, and_right}
 use Rattle.laws.specs.Fold.{up_to, bit, count_to}
 use Rattle.laws.specs.First.{first, or_else}

@@ -26,8 +26,8 @@ use Rattle.rules.specs.declared.instruction.Instruction.TheVariants.{FindObstacl
 use Rattle.rules.specs.declared.registers.VertexRegisters.{VertexRegisters}
 use Rattle.rules.specs.declared.instruction.CompactGrowState.{CompactGrowState}
 use Rattle.rules.specs.declared.instruction.CompactGrowState.TheVariants.{Stay, Grow, Shrink}
-use Rattle.rules.specs.declared.registers.Executed.{Executed}
-use Rattle.rules.specs.declared.registers.Executed.TheVariants.{Done}
+use Rattle.rules.specs.Types.{Executed}
+use Rattle.std.specs.Prelude.{Ok}
 use Rattle.promises.proofs.Stages.{executed_has, shadows_has, executed_at, shadows_at, shadow_at}
 use Rattle.promises.specs.Careful.{Careful, NotBehind, AllCareful, none as no_steps, more, CarefulCall, CarefulCalls}
 use Rattle.promises.specs.Cycle.{shown, left_on, after_execute, after_update, shadows_seen}
@@ -46,7 +46,7 @@ speed_virtual Stay n x = refl
 speed_virtual Grow n x = by_test (λ (e : Executed). (done_or x e).is_virtual ≡ x.is_virtual) _ (λ t. refl) (λ t. refl)
 speed_virtual Shrink n x = by_test (λ (e : Executed). (done_or x e).is_virtual ≡ x.is_virtual) _ (λ t. refl) (λ t. refl)
 
-moved_virtual : (passed : Bool) (n : ℕ) (x : VertexRegisters) → (done_or x (pick passed (Done x) (moved x.speed n x))).is_virtual ≡ x.is_virtual
+moved_virtual : (passed : Bool) (n : ℕ) (x : VertexRegisters) → (done_or x (pick passed (Ok x) (moved x.speed n x))).is_virtual ≡ x.is_virtual
 unfolding pick
 moved_virtual true n x = refl
 moved_virtual false n x = speed_virtual x.speed n x
@@ -87,9 +87,9 @@ module _ (g : Graph) (s m t : State) (f h : Finding) (n : ℕ) (sound : Sound g 
         (shadows_at (in_use g).vertices (in_use g).edges (weights_fetched (in_use g) s) (after_execute (in_use g) s FindObstacle) (after_update (in_use g) s FindObstacle) (vertices_stalled (in_use g) s) (in_use g).ne (in_use g).nv v l (rw find.registers at fit))
 
     abbrev grown_to : VertexRegisters
-    grown_to = done_or (at m.registers v) (pick (stopped v or waiting v) (Done (at m.registers v)) (moved (at m.registers v).speed n (at m.registers v)))
+    grown_to = done_or (at m.registers v) (pick (stopped v or waiting v) (Ok (at m.registers v)) (moved (at m.registers v).speed n (at m.registers v)))
 
-    executes : execute_at (in_use g).vertices m.registers (vertices_stalled (in_use g) m) (GrowBy n) v ≡ pick (stopped v or waiting v) (Done (at m.registers v)) (moved (at m.registers v).speed n (at m.registers v))
+    executes : execute_at (in_use g).vertices m.registers (vertices_stalled (in_use g) m) (GrowBy n) v ≡ pick (stopped v or waiting v) (Ok (at m.registers v)) (moved (at m.registers v).speed n (at m.registers v))
     unfolding execute_at execute still
     executes = rw stalls_same
 

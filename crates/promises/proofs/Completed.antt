@@ -14,8 +14,8 @@ use Rattle.rules.specs.declared.graph.Graph.{Graph}
 use Rattle.rules.specs.declared.state.State.{State}
 use Rattle.rules.specs.declared.state.Cycle.{Cycle}
 use Rattle.rules.specs.declared.finding.Finding.{Finding}
-use Rattle.rules.specs.declared.finding.Answer.{Answer}
-use Rattle.rules.specs.declared.finding.Answer.TheVariants.{Found, Refused}
+use Rattle.rules.specs.Types.{Answer}
+use Rattle.std.specs.Prelude.{Err, Ok}
 use Rattle.rules.specs.declared.instruction.Instruction.{Instruction}
 use Rattle.rules.specs.declared.refusal.Refusal.{Refusal}
 use Rattle.rules.specs.declared.refusal.Refusal.TheVariants.{OddRemaining}
@@ -36,8 +36,8 @@ module _ (g : Graph) (s : State) (i : Instruction) where
     by_odd : r ≡ OddRemaining → Refuses r
 
   abbrev pub Told : State → Answer → Type 0
-  Told t (Found f) = Completed t f
-  Told t (Refused r) = (t ≡ s) × Refuses r
+  Told t (Ok f) = Completed t f
+  Told t (Err r) = (t ≡ s) × Refuses r
 
   abbrev Tells : Cycle → Type 0
   Tells c = Told c.state c.answer

@@ -25,8 +25,8 @@ use Rattle.rules.specs.Run.{Call, execute, call, run}
 use Rattle.rules.specs.declared.graph.Graph.{Graph}
 use Rattle.rules.specs.declared.state.State.{State}
 use Rattle.rules.specs.declared.state.Cycle.{Cycle}
-use Rattle.rules.specs.declared.finding.Answer.{Answer}
-use Rattle.rules.specs.declared.finding.Answer.TheVariants.{Found, Refused}
+use Rattle.rules.specs.Types.{Answer}
+use Rattle.std.specs.Prelude.{Err, Ok}
 use Rattle.rules.specs.declared.finding.Finding.{Finding}
 use Rattle.rules.specs.declared.finding.Finding.TheVariants.{GrowLength, Conflict}
 use Rattle.rules.specs.declared.finding.Length.{Length}
@@ -156,8 +156,8 @@ module _ (g : Graph) where
 
 -- a FindObstacle is no growth step, however it is answered
 nothing_done : (a : Answer) → if_done [] a ≡ []
-nothing_done (Found f) = refl
-nothing_done (Refused r) = refl
+nothing_done (Ok f) = refl
+nothing_done (Err r) = refl
 
 find_noted : (g : Graph) (s : State) (es : List GrowthStep) → noted g s es (execute FindObstacle) ≡ es
 unfolding noted of_instruction
@@ -186,7 +186,7 @@ module _ (g : Graph) where
 
   module _ (r : State) {s u : State} {e : GrowthStep} (sound : Sound g s.registers) (same : s ≡ with_maximum s.maximum r) (l : Link (in_use g) s e u) where
     -- the finding and the Grow from r, whose maximum may be another
-    found_limited : limited s.maximum (step (in_use g) r FindObstacle) ≡ record { state = e.before; answer = Found (GrowLength (Ahead l.limit)) }
+    found_limited : limited s.maximum (step (in_use g) r FindObstacle) ≡ record { state = e.before; answer = Ok (GrowLength (Ahead l.limit)) }
     found_limited = sym (step_limited (in_use g) s.maximum r FindObstacle) ∙ ap (λ (x : State). step (in_use g) x FindObstacle) (sym same) ∙ l.found
 
     abbrev middle : State
@@ -195,7 +195,7 @@ module _ (g : Graph) where
     before_is : e.before ≡ with_maximum s.maximum middle
     before_is = sym (ap (λ (c : Cycle). c.state) found_limited)
 
-    grown_limited : limited s.maximum (step (in_use g) middle (GrowBy e.length)) ≡ record { state = l.after; answer = Found l.told }
+    grown_limited : limited s.maximum (step (in_use g) middle (GrowBy e.length)) ≡ record { state = l.after; answer = Ok l.told }
     grown_limited =
         sym (step_limited (in_use g) s.maximum middle (GrowBy e.length))
         ∙ ap (λ (x : State). step (in_use g) x (GrowBy e.length)) (sym before_is) ∙ l.grew

@@ -21,8 +21,8 @@ use Rattle.rules.specs.declared.graph.OffloadingType.TheVariants.{DefectMatch, V
 use Rattle.rules.specs.declared.state.State.{State}
 use Rattle.rules.specs.declared.instruction.Instruction.TheVariants.{FindObstacle}
 use Rattle.rules.specs.declared.registers.VertexRegisters.{VertexRegisters}
-use Rattle.rules.specs.declared.registers.PropagatingPeer.{PropagatingPeer}
-use Rattle.rules.specs.declared.registers.PropagatingPeer.TheVariants.{Nobody, Leads}
+use Rattle.rules.specs.Types.{PropagatingPeer}
+use Rattle.std.specs.Prelude.{None, Some}
 use Rattle.promises.proofs.Stages.{executed_has, updated_has}
 use Rattle.promises.specs.Cycle.{after_execute, after_update}
 
@@ -37,8 +37,8 @@ kept_self : (y : VertexRegisters) → Kept y y
 kept_self y = record { grown = refl; virtual = refl; defect = refl; whole = λ e. refl }
 
 follow_kept : (y : VertexRegisters) (p : PropagatingPeer) → is_loose y ≡ true → Kept y (follow p y)
-follow_kept y Nobody e = record { grown = refl; virtual = refl; defect = refl; whole = λ q. cc }
-follow_kept y (Leads n t) e = record { grown = refl; virtual = refl; defect = refl; whole = λ q. cc }
+follow_kept y None e = record { grown = refl; virtual = refl; defect = refl; whole = λ q. cc }
+follow_kept y (Some lead) e = record { grown = refl; virtual = refl; defect = refl; whole = λ q. cc }
 
 pub update_kept : (p : PropagatingPeer) (y : VertexRegisters) → Kept y (update p y)
 unfolding update

@@ -29,9 +29,8 @@ use Rattle.rules.specs.declared.instruction.CompactGrowState.TheVariants.{Stay, 
 use Rattle.rules.specs.declared.instruction.Instruction.{Instruction}
 use Rattle.rules.specs.declared.instruction.Instruction.TheVariants.{SetSpeed, SetBlossom, AddDefectVertex, FindObstacle, Grow as GrowBy, LoadDefectsExternal}
 use Rattle.rules.specs.declared.registers.VertexRegisters.{VertexRegisters}
-use Rattle.rules.specs.declared.registers.Executed.{Executed}
-use Rattle.rules.specs.declared.registers.PropagatingPeer.{PropagatingPeer}
-use Rattle.rules.specs.declared.registers.PropagatingPeer.TheVariants.{Nobody, Leads}
+use Rattle.rules.specs.Types.{Executed, PropagatingPeer}
+use Rattle.std.specs.Prelude.{None, Some}
 use Rattle.promises.specs.Cycle.{after_execute, after_update, shadows_seen}
 use Rattle.promises.proofs.Stages.{fresh_fits, Bounded, filled_has, update_at, executed_has, updated_has, shadows_has}
 use Rattle.promises.proofs.Completed.{Completed}
@@ -80,16 +79,16 @@ execute_numbered (GrowBy l) b v layer stays x h = by_test (λ (e : Executed). Nu
 execute_numbered (LoadDefectsExternal k) b v layer stays x h = by_test Numbered _ (λ t. record { number = h.number; together = h.together }) (λ t. h)
 
 abbrev PeerNumbered : PropagatingPeer → Type 0
-PeerNumbered Nobody = Unit {0}
-PeerNumbered (Leads n t) = (n.0 ≤ 32_767) × (t.0 ≤ 32_767)
+PeerNumbered None = Unit {0}
+PeerNumbered (Some lead) = (lead.node.0 ≤ 32_767) × (lead.root.0 ≤ 32_767)
 
 follow_numbered : (p : PropagatingPeer) → PeerNumbered p → (x : VertexRegisters) → Numbered (follow p x)
-follow_numbered Nobody l x = idle _ refl (neither (omega arith) (omega arith))
-follow_numbered (Leads n t) l x = record { number = λ g. l.0; together = numbers l.0 l.1 }
+follow_numbered None l x = idle _ refl (neither (omega arith) (omega arith))
+follow_numbered (Some lead) l x = record { number = λ g. l.0; together = numbers l.0 l.1 }
 
 yield_numbered : (p : PropagatingPeer) → PeerNumbered p → (x : VertexRegisters) → Numbered x → Numbered (yield p x)
-yield_numbered Nobody l x h = h
-yield_numbered (Leads n t) l x h = record { number = λ g. l.0; together = numbers l.0 l.1 }
+yield_numbered None l x h = h
+yield_numbered (Some lead) l x h = record { number = λ g. l.0; together = numbers l.0 l.1 }
 
 shadow_numbered : (p : PropagatingPeer) → PeerNumbered p → (waiting stalled : Bool) (x : VertexRegisters) → Numbered x → Numbered (shadow p waiting stalled x)
 unfolding shadow yielded

@@ -19,13 +19,12 @@ use Rattle.rules.specs.Run.{Call, execute, word, clear, seek, seek_on, look, cal
 use Rattle.rules.specs.declared.graph.Graph.{Graph}
 use Rattle.rules.specs.declared.state.State.{State}
 use Rattle.rules.specs.declared.finding.Finding.{Finding}
-use Rattle.rules.specs.declared.finding.Answer.{Answer}
-use Rattle.rules.specs.declared.finding.Answer.TheVariants.{Found, Refused}
+use Rattle.rules.specs.Types.{Answer, Unpacked}
+use Rattle.std.specs.Prelude.{Err, Ok}
 use Rattle.rules.specs.declared.finding.Sought.TheVariants.{NotBegun}
 use Rattle.rules.specs.declared.instruction.Instruction.{Instruction}
 use Rattle.rules.specs.declared.instruction.Instruction.TheVariants.{FindObstacle, Grow as GrowBy}
-use Rattle.rules.specs.declared.instruction.Unpacked.{Unpacked}
-use Rattle.rules.specs.declared.instruction.Unpacked.TheVariants as U
+use Rattle.rules.specs.declared.instruction.Asked.TheVariants as U
 use Rattle.rules.specs.declared.refusal.Refusal.{Refusal}
 use Rattle.rules.specs.declared.refusal.Refusal.TheVariants.{OutOfBounds}
 use Rattle.rules.specs.declared.registers.VertexRegisters.{VertexRegisters}
@@ -44,8 +43,8 @@ module _ (g : Graph) (Q : State → List GrowthStep → Type 0)
   -- ---- an instruction
   told_keeps : (s : State) (i : Instruction) (es : List GrowthStep) → Bounded i → Q s es → (t : State) (a : Answer) → Told (in_use g) s i t a
       → Q t (if_done (grows s i) a ++ es)
-  told_keeps s i es b q t (Found f) h = cycle s t i f es b q h
-  told_keeps s i es b q t (Refused r) h = rw h.0 q
+  told_keeps s i es b q t (Ok f) h = cycle s t i f es b q h
+  told_keeps s i es b q t (Err r) h = rw h.0 q
 
   by_bar : (s : State) (i : Instruction) (es : List GrowthStep) → Q s es → (o : Option Refusal) → barred (in_use g) i ≡ o
       → let c = unless_barred (in_use g) s i o in Q c.state (if_done (grows s i) c.answer ++ es)
@@ -58,15 +57,15 @@ module _ (g : Graph) (Q : State → List GrowthStep → Type 0)
 
   word_keeps : (s : State) (u : Unpacked) (es : List GrowthStep) → Q s es → Q (carried_out g s u).state (after_word g s es u)
   unfolding reset
-  word_keeps s (U.Says i) es q = instruct_keeps s i es q
-  word_keeps s U.Reset es q = start s.maximum
-  word_keeps s (U.Refused r) es q = q
+  word_keeps s (Ok (U.Says i)) es q = instruct_keeps s i es q
+  word_keeps s (Ok U.Reset) es q = start s.maximum
+  word_keeps s (Err r) es q = q
 
   -- ---- a search
   module _ (es : List GrowthStep) where
     found_keeps : (s t : State) (a : Answer) (ts : List GrowthStep) → Q s ts → Told (in_use g) s FindObstacle t a → Q t ts
-    found_keeps s t (Found f) ts q h = cycle s t FindObstacle f ts tt q h
-    found_keeps s t (Refused r) ts q h = rw h.0 q
+    found_keeps s t (Ok f) ts q h = cycle s t FindObstacle f ts tt q h
+    found_keeps s t (Err r) ts q h = rw h.0 q
 
     stopped_keeps : (c : Walk) (a : Ended) → Q c.state (c.trail ++ es) → Stopped (in_use g) c a → Q a.walk.state (a.walk.trail ++ es)
     stopped_keeps c a q h =

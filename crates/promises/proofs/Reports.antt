@@ -14,9 +14,8 @@ use Rattle.rules.specs.Search.{GrowthStep, tally, search, search_on, search_to}
 use Rattle.rules.specs.Run.{Look, list, Call, execute, word, clear, seek, seek_on, look, found, of_search, of_list, looked, call, replies}
 use Rattle.rules.specs.declared.graph.Graph.{Graph}
 use Rattle.rules.specs.declared.state.State.{State}
-use Rattle.rules.specs.declared.finding.Answer.{Answer}
-use Rattle.rules.specs.declared.finding.Answer.TheVariants.{Found, Refused}
-use Rattle.rules.specs.declared.finding.Listed.{Listed}
+use Rattle.rules.specs.Types.{Answer, Listed}
+use Rattle.std.specs.Prelude.{Err, Ok}
 use Rattle.rules.specs.declared.finding.Tally.{Tally}
 use Rattle.rules.specs.declared.finding.Sought.TheVariants as S
 use Rattle.rules.specs.declared.refusal.Refusal.TheVariants as R
@@ -25,10 +24,10 @@ use Rattle.promises.specs.Reports.{Counted, Begun, NotBegun, made_by, Lists, Loo
 use Rattle.promises.proofs.Numbers.{only_14}
 use Rattle.promises.proofs.Searches.{search_counts, search_not_below}
 
-by_answer : (m : ℕ) (es : List GrowthStep) (t : Tally) (left : ℕ) (a : Answer) → Counted m es t left → (a ≡ Refused R.BelowZero → ⊥)
-    → Begun m es (found (elim a [ Found f ↦ S.Found f t | Refused r ↦ S.Stopped r t ]) left)
-by_answer m es t left (Found f) c n = c
-by_answer m es t left (Refused r) c n = (c, λ e. n (ap Refused (only_14 r e)))
+by_answer : (m : ℕ) (es : List GrowthStep) (t : Tally) (left : ℕ) (a : Answer) → Counted m es t left → (a ≡ Err R.BelowZero → ⊥)
+    → Begun m es (found (elim a [ Ok f ↦ S.Found f t | Err r ↦ S.Stopped r t ]) left)
+by_answer m es t left (Ok f) c n = c
+by_answer m es t left (Err r) c n = (c, λ e. n (ap Err (only_14 r e)))
 
 list_reports : (s : State) (room : ℕ) → Lists s room (of_list (listed s room) (pairs s))
 unfolding listed

@@ -21,15 +21,14 @@ use Rattle.rules.specs.declared.graph.Graph.{Graph}
 use Rattle.rules.specs.declared.state.State.{State}
 use Rattle.rules.specs.declared.finding.Length.TheVariants.{NoLimit, Ahead, Behind}
 use Rattle.rules.specs.declared.finding.Finding.TheVariants.{GrowLength, Conflict}
-use Rattle.rules.specs.declared.finding.Answer.{Answer}
-use Rattle.rules.specs.declared.finding.Answer.TheVariants.{Found, Refused}
+use Rattle.rules.specs.Types.{Answer, Executed}
+use Rattle.std.specs.Prelude.{Err, Ok}
 use Rattle.rules.specs.declared.instruction.CompactGrowState.{CompactGrowState}
 use Rattle.rules.specs.declared.instruction.CompactGrowState.TheVariants.{Stay, Grow, Shrink}
 use Rattle.rules.specs.declared.instruction.Instruction.{Instruction}
 use Rattle.rules.specs.declared.instruction.Instruction.TheVariants.{FindObstacle, Grow as GrowBy}
 use Rattle.rules.specs.declared.refusal.Refusal.{Refusal}
 use Rattle.rules.specs.declared.refusal.Refusal.TheVariants as R
-use Rattle.rules.specs.declared.registers.Executed.{Executed}
 use Rattle.rules.specs.declared.registers.VertexRegisters.{VertexRegisters}
 use Rattle.promises.specs.Ledger.{sum}
 use Rattle.promises.specs.Trail.{Chain, none as no_steps, more, Halts, at_zero, refused, Concludes, IsTrail}
@@ -108,10 +107,10 @@ find_not_refused vs rs stalled nv = first_has (λ (o : Option Refusal). o ≡ no
 
 module _ (g : Graph) where
   abbrev Above : Answer → Type 0
-  Above a = a ≡ Refused R.BelowZero → ⊥
+  Above a = a ≡ Err R.BelowZero → ⊥
 
   refused_above : (s : State) (i : Instruction) (r : Refusal) → Refuses g s i r
-      → NotBelow (execute_refusal g.vertices s.registers (vertices_stalled g s) i g.nv) → Above (Refused r)
+      → NotBelow (execute_refusal g.vertices s.registers (vertices_stalled g s) i g.nv) → Above (Err r)
   refused_above s i r (by_execute e) h q = h (cc)
   refused_above s i r (by_odd e) h q = let z : ◌≡◌ {A = ℕ} 0 1 = cc in omega arith
 
@@ -122,22 +121,22 @@ module _ (g : Graph) where
       refused_above m (GrowBy k) r (subst (λ (x : Answer). Told g m (GrowBy k) (step g m (GrowBy k)).state x) e (step_tells g m (GrowBy k))).1 h q
 
   concludes_above : (s m : State) (x a : Answer) → Told g s FindObstacle m x → Concludes g m x a → Above a
-  concludes_above s m (Refused r) a w e q =
+  concludes_above s m (Err r) a w e q =
       refused_above s FindObstacle r w.1
       (λ o. none_not_below (sym (find_not_refused g.vertices s.registers (vertices_stalled g s) g.nv) ∙ o)) (sym e ∙ q)
-  concludes_above s m (Found (Conflict b c)) a w e q = let z : ◌≡◌ {A = ℕ} 0 1 = cc in omega arith
-  concludes_above s m (Found (GrowLength NoLimit)) a w e q = let z : ◌≡◌ {A = ℕ} 0 1 = cc in omega arith
-  concludes_above s m (Found (GrowLength (Behind n))) a w e q = let z : ◌≡◌ {A = ℕ} 0 1 = cc in omega arith
-  concludes_above s m (Found (GrowLength (Ahead n))) a w e q =
+  concludes_above s m (Ok (Conflict b c)) a w e q = let z : ◌≡◌ {A = ℕ} 0 1 = cc in omega arith
+  concludes_above s m (Ok (GrowLength NoLimit)) a w e q = let z : ◌≡◌ {A = ℕ} 0 1 = cc in omega arith
+  concludes_above s m (Ok (GrowLength (Behind n))) a w e q = let z : ◌≡◌ {A = ℕ} 0 1 = cc in omega arith
+  concludes_above s m (Ok (GrowLength (Ahead n))) a w e q =
       let k = min n m.maximum in
       let allows = ahead_allows k n (omega arith) in
       halts_above m k a
       (grow_not_below g.vertices m.registers (vertices_stalled g m) k g.nv
       (λ v l t. rw w.registers (shrinks_allow _ _ _ _ _ g.nv k (rw w.found at allows) v l (rw w.registers at t)))) e q
 
-pub search_not_below : (g : Graph) (s : State) → (search g s).answer ≡ Refused R.BelowZero → ⊥
+pub search_not_below : (g : Graph) (s : State) → (search g s).answer ≡ Err R.BelowZero → ⊥
 search_not_below g s =
-    search_keeps g (λ c. Unit {0}) (λ a. a.answer ≡ Refused R.BelowZero → ⊥)
+    search_keeps g (λ c. Unit {0}) (λ a. a.answer ≡ Err R.BelowZero → ⊥)
     (λ c a p h.
     let found = step (in_use g) c.state FindObstacle in
     concludes_above (in_use g) c.state found.state found.answer a.answer (step_tells (in_use g) c.state FindObstacle) h.answers) (λ c d p h. tt) s tt

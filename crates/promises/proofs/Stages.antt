@@ -26,9 +26,8 @@ use Rattle.rules.specs.declared.instruction.Instruction.{Instruction}
 use Rattle.rules.specs.declared.instruction.Instruction.TheVariants.{SetSpeed, SetBlossom, AddDefectVertex, FindObstacle, Grow as GrowBy, LoadDefectsExternal}
 use Rattle.rules.specs.declared.refusal.Refusal.{Refusal}
 use Rattle.rules.specs.declared.registers.VertexRegisters.{VertexRegisters}
-use Rattle.rules.specs.declared.registers.Executed.{Executed}
-use Rattle.rules.specs.declared.registers.PropagatingPeer.{PropagatingPeer}
-use Rattle.rules.specs.declared.registers.PropagatingPeer.TheVariants.{Nobody, Leads}
+use Rattle.rules.specs.Types.{Executed, PropagatingPeer}
+use Rattle.std.specs.Prelude.{None, Some}
 use mathlib.Core.Option.{Option, none, some}
 use Rattle.laws.specs.First.{first}
 use Rattle.rules.proofs.Round.{InRange, at_in_range, round}
@@ -126,16 +125,16 @@ module _ (vs rs : List ℕ) (stalled : List Bool) (i : Instruction) (b : Bounded
 
 -- a peer's node and root fit a register
 abbrev pub PeerFits : PropagatingPeer → Type 0
-PeerFits Nobody = Unit {0}
-PeerFits (Leads n t) = (n.0 < 65_536) × (t.0 < 65_536)
+PeerFits None = Unit {0}
+PeerFits (Some lead) = (lead.node.0 < 65_536) × (lead.root.0 < 65_536)
 
 lead_fits : (xs : List ℕ) (p : Option ℕ) → PeerFits (lead_by xs p)
 lead_fits xs none = tt
 lead_fits xs (some p) = ((at_in_range xs p).node, (at_in_range xs p).root)
 
 pub follow_fits : (p : PropagatingPeer) → PeerFits p → (x : VertexRegisters) → InRange x → InRange (follow p x)
-follow_fits Nobody q x h = record { grown = h.grown; node = omega arith; root = omega arith }
-follow_fits (Leads n t) q x h = record { grown = h.grown; node = q.0; root = q.1 }
+follow_fits None q x h = record { grown = h.grown; node = omega arith; root = omega arith }
+follow_fits (Some lead) q x h = record { grown = h.grown; node = q.0; root = q.1 }
 
 module _ (es fs xs : List ℕ) (ne : ℕ) where
   pub peer_fits : (v : ℕ) → PeerFits (peer es fs xs ne v)
@@ -165,8 +164,8 @@ module _ (es fs xs : List ℕ) (ne : ℕ) where
 -- ---- stage 6
 
 yield_fits : (p : PropagatingPeer) → PeerFits p → (x : VertexRegisters) → InRange x → InRange (yield p x)
-yield_fits Nobody q x h = h
-yield_fits (Leads n t) q x h = record { grown = h.grown; node = q.0; root = q.1 }
+yield_fits None q x h = h
+yield_fits (Some lead) q x h = record { grown = h.grown; node = q.0; root = q.1 }
 
 yielded_fits : (p : PropagatingPeer) → PeerFits p → (x : VertexRegisters) → InRange x → InRange (yielded p x)
 unfolding yielded

@@ -25,7 +25,7 @@ use Rattle.rules.specs.declared.instruction.CompactGrowState.TheVariants.{Stay, 
 use Rattle.rules.specs.declared.instruction.Instruction.{Instruction}
 use Rattle.rules.specs.declared.instruction.Instruction.TheVariants.{SetSpeed, SetBlossom, AddDefectVertex, FindObstacle, Grow as GrowBy, LoadDefectsExternal}
 use Rattle.rules.specs.declared.registers.VertexRegisters.{VertexRegisters}
-use Rattle.rules.specs.declared.registers.Executed.TheVariants.{Done}
+use Rattle.std.specs.Prelude.{Ok}
 use Rattle.promises.specs.Cycle.{after_execute}
 use Rattle.promises.specs.Ledger.{times, grows, was_stalled, was_waiting, share, total, ledger}
 use Rattle.promises.proofs.Stages.{fresh_fits, Bounded, executed_at, updated_at, executed_length, filled_at}
@@ -72,8 +72,8 @@ same n = sym (+ℤ_idr (pos n))
 abbrev Unmoved : VertexRegisters → VertexRegisters → Type 0
 Unmoved x y = pos y.grown ≡ pos x.grown +ℤ pos 0
 
-grow_adds : (passed : Bool) (l : ℕ) (x : VertexRegisters) → refusal_of (pick passed (Done x) (moved x.speed l x)) ≡ none
-    → pos (done_or x (pick passed (Done x) (moved x.speed l x))).grown ≡ pos x.grown +ℤ pick passed (pos 0) (times x.speed l)
+grow_adds : (passed : Bool) (l : ℕ) (x : VertexRegisters) → refusal_of (pick passed (Ok x) (moved x.speed l x)) ≡ none
+    → pos (done_or x (pick passed (Ok x) (moved x.speed l x))).grown ≡ pos x.grown +ℤ pick passed (pos 0) (times x.speed l)
 unfolding pick
 grow_adds true l x h = same x.grown
 grow_adds false l x h = moves_adds x.speed l x.grown _ (own_moves x.speed l x h)

@@ -13,8 +13,8 @@ use Rattle.rules.specs.declared.state.Cycle.{Cycle}
 use Rattle.rules.specs.declared.finding.Length.TheVariants.{NoLimit, Ahead, Behind}
 use Rattle.rules.specs.declared.finding.Finding.{Finding}
 use Rattle.rules.specs.declared.finding.Finding.TheVariants.{GrowLength, Conflict}
-use Rattle.rules.specs.declared.finding.Answer.{Answer}
-use Rattle.rules.specs.declared.finding.Answer.TheVariants.{Found, Refused}
+use Rattle.rules.specs.Types.{Answer}
+use Rattle.std.specs.Prelude.{Err, Ok}
 use Rattle.rules.specs.declared.instruction.Instruction.{Instruction}
 use Rattle.rules.specs.declared.instruction.Instruction.TheVariants.{FindObstacle, Grow as GrowBy}
 use Rattle.promises.specs.Trail.{Link, at_zero, refused, Concludes}
@@ -23,15 +23,15 @@ use Rattle.promises.proofs.Within.{Allows, ahead_allows}
 
 module _ (g : Graph) where
   told_maximum : (s : State) (i : Instruction) (t : State) (a : Answer) → Told g s i t a → t.maximum ≡ s.maximum
-  told_maximum s i t (Found f) h = h.maximum
-  told_maximum s i t (Refused r) h = ap (λ (x : State). x.maximum) h.0
+  told_maximum s i t (Ok f) h = h.maximum
+  told_maximum s i t (Err r) h = ap (λ (x : State). x.maximum) h.0
 
   -- no instruction changes the maximum
   pub step_maximum : (s : State) (i : Instruction) → (step g s i).state.maximum ≡ s.maximum
   step_maximum s i = told_maximum s i (step g s i).state (step g s i).answer (step_tells g s i)
 
   -- an instruction that is answered by a finding is completed
-  completed : (s t : State) (i : Instruction) (f : Finding) → step g s i ≡ record { state = t; answer = Found f } → Completed g s i t f
+  completed : (s t : State) (i : Instruction) (f : Finding) → step g s i ≡ record { state = t; answer = Ok f } → Completed g s i t f
   completed s t i f e = subst (λ (c : Cycle). Told g s i c.state c.answer) e (step_tells g s i)
 
   -- ---- a step: a finding that allows its length, and a Grow by it, which the maximum is lowered by
@@ -77,19 +77,19 @@ module _ (g : Graph) where
       → Stopped c (ends (at_state c m) a)
   rests c m x a y h = record { leaves = rw y; answers = rw y h; growth = refl; steps = refl; trail = refl }
 
-  after_grow_lem : (c : Walk) (m : State) (k n : ℕ) → step g c.state FindObstacle ≡ record { state = m; answer = Found (GrowLength (Ahead k)) }
+  after_grow_lem : (c : Walk) (m : State) (k n : ℕ) → step g c.state FindObstacle ≡ record { state = m; answer = Ok (GrowLength (Ahead k)) }
       → suc n ≡ min k m.maximum → (t : State) (a : Answer) → step g m (GrowBy (suc n)) ≡ record { state = t; answer = a }
       → Turns c (after_grow (at_state c m) (suc n) t a)
-  after_grow_lem c m k n y l t (Found told) z = record {
+  after_grow_lem c m k n y l t (Ok told) z = record {
     entry = record { before = m; length = suc n };
     link = record { limit = k; found = y; clamped = l; some = omega arith; after = t; told = told; grew = z; lowered = refl };
     growth = refl;
     steps = refl;
     trail = refl;
   }
-  after_grow_lem c m k n y l t (Refused r) z = rests c m _ _ y (rw (← l) (refused (ap (λ (x : Cycle). x.answer) z)))
+  after_grow_lem c m k n y l t (Err r) z = rests c m _ _ y (rw (← l) (refused (ap (λ (x : Cycle). x.answer) z)))
 
-  grow_turns : (c : Walk) (m : State) (k n : ℕ) → step g c.state FindObstacle ≡ record { state = m; answer = Found (GrowLength (Ahead k)) }
+  grow_turns : (c : Walk) (m : State) (k n : ℕ) → step g c.state FindObstacle ≡ record { state = m; answer = Ok (GrowLength (Ahead k)) }
       → n ≡ min k m.maximum → Turns c (grow_by g (at_state c m) n)
   unfolding grow_by
   grow_turns c m k zero y l = rests c m _ _ y (at_zero (sym l))
@@ -97,11 +97,11 @@ module _ (g : Graph) where
 
   find_turns : (c : Walk) (m : State) (x : Answer) → step g c.state FindObstacle ≡ record { state = m; answer = x } → Turns c (after_finding g (at_state c m) x)
   unfolding after_finding
-  find_turns c m (Refused r) y = rests c m _ _ y refl
-  find_turns c m (Found (Conflict a b)) y = rests c m _ _ y refl
-  find_turns c m (Found (GrowLength NoLimit)) y = rests c m _ _ y refl
-  find_turns c m (Found (GrowLength (Behind n))) y = rests c m _ _ y refl
-  find_turns c m (Found (GrowLength (Ahead n))) y = grow_turns c m n (min n m.maximum) y refl
+  find_turns c m (Err r) y = rests c m _ _ y refl
+  find_turns c m (Ok (Conflict a b)) y = rests c m _ _ y refl
+  find_turns c m (Ok (GrowLength NoLimit)) y = rests c m _ _ y refl
+  find_turns c m (Ok (GrowLength (Behind n))) y = rests c m _ _ y refl
+  find_turns c m (Ok (GrowLength (Ahead n))) y = grow_turns c m n (min n m.maximum) y refl
 
   pub turn_turns : (c : Walk) → Turns c (turn g c)
   unfolding turn

@@ -24,15 +24,12 @@ use Rattle.promises.proofs.Stages.{some_not_none}
 use Rattle.rules.specs.declared.instruction.CompactGrowState.{CompactGrowState}
 use Rattle.rules.specs.declared.instruction.CompactGrowState.TheVariants.{Stay, Grow, Shrink}
 use Rattle.rules.specs.declared.registers.VertexRegisters.{VertexRegisters}
-use Rattle.rules.specs.declared.registers.Executed.{Executed}
-use Rattle.rules.specs.declared.registers.Executed.TheVariants.{Done}
-use Rattle.rules.specs.declared.registers.PropagatingPeer.{PropagatingPeer}
+use Rattle.rules.specs.Types.{Executed, PropagatingPeer, Response, odd_remaining}
+use Rattle.std.specs.Prelude.{Err, Ok}
 use Rattle.rules.specs.declared.finding.Length.{Length}
 use Rattle.rules.specs.declared.finding.Length.TheVariants.{NoLimit, Ahead, Behind}
 use Rattle.rules.specs.declared.finding.Finding.{Finding}
 use Rattle.rules.specs.declared.finding.Finding.TheVariants.{GrowLength, Conflict}
-use Rattle.rules.specs.declared.finding.Response.{Response}
-use Rattle.rules.specs.declared.finding.Response.TheVariants.{Reports, OddRemaining}
 
 -- ---- the finding is at most each report
 
@@ -123,8 +120,8 @@ yielded_moves p n x l h e =
 
 -- a vertex that is stalled or waits shows Stay and is passed by; one at Shrink that is not at 0 shows its own speed
 pub shadow_moves : (p : PropagatingPeer) (waiting stalled : Bool) (n : ℕ) (x : VertexRegisters) → 1 ≤ n → (shrinking x.speed ≡ true → n ≤ x.grown)
-    → refusal_of (pick (stalled or waiting) (Done x) (moved x.speed n x)) ≡ none
-    → Moves (shadow p waiting stalled x).speed n x.grown (done_or x (pick (stalled or waiting) (Done x) (moved x.speed n x))).grown
+    → refusal_of (pick (stalled or waiting) (Ok x) (moved x.speed n x)) ≡ none
+    → Moves (shadow p waiting stalled x).speed n x.grown (done_or x (pick (stalled or waiting) (Ok x) (moved x.speed n x))).grown
 unfolding pick ◌or◌ shadow Moves
 shadow_moves p waiting true n x l h e = refl
 shadow_moves p true false n x l h e = refl
@@ -153,8 +150,8 @@ less_le w n =
     by_test (λ (l : Length). NotBehind l → n ≤ w) (leb n w) (λ t h. leb-true n w t)
     (λ t h. omega (arith, leb-false n w t, not_behind (n - w) h.le))
 
-even_halves : (n d : ℕ) → Allows n (reported (pick (eqb (d % 2) 1) OddRemaining (Reports (GrowLength (Ahead (d / 2))))))
-    → odd (pick (eqb (d % 2) 1) OddRemaining (Reports (GrowLength (Ahead (d / 2))))) ≡ false → n + n ≤ d
+even_halves : (n d : ℕ) → Allows n (reported (pick (eqb (d % 2) 1) (Err odd_remaining) (Ok (GrowLength (Ahead (d / 2))))))
+    → odd (pick (eqb (d % 2) 1) (Err odd_remaining) (Ok (GrowLength (Ahead (d / 2))))) ≡ false → n + n ≤ d
 unfolding Allows
 even_halves n d =
     by_test (λ (r : Response). Allows n (reported r) → odd r ≡ false → n + n ≤ d) (eqb (d % 2) 1)

@@ -8,7 +8,7 @@ use Rattle.rules.specs.Search.{GrowthStep}
 use Rattle.rules.specs.Run.{Call, execute, word, clear, seek, seek_on, look, call}
 use Rattle.rules.specs.declared.graph.Graph.{Graph}
 use Rattle.rules.specs.declared.state.State.{State}
-use Rattle.rules.specs.declared.finding.Answer.TheVariants.{Found}
+use Rattle.std.specs.Prelude.{Ok}
 use Rattle.rules.specs.declared.finding.Finding.{Finding}
 use Rattle.rules.specs.declared.finding.Length.{Length}
 use Rattle.rules.specs.declared.instruction.Instruction.TheVariants.{FindObstacle, Grow}
@@ -25,11 +25,11 @@ module _ (g : Graph) where
     -- the state before the finding; the finding leaves the state before the step
     pub seen : State
     pub finding : Finding
-    pub found : step (in_use g) seen FindObstacle ≡ record { state = e.before; answer = Found finding }
+    pub found : step (in_use g) seen FindObstacle ≡ record { state = e.before; answer = Ok finding }
     -- the state after the step
     pub after : State
     pub told : Finding
-    pub grew : step (in_use g) e.before (Grow e.length) ≡ record { state = after; answer = Found told }
+    pub grew : step (in_use g) e.before (Grow e.length) ≡ record { state = after; answer = Ok told }
     -- each vertex's amount is exactly what it was and its share of the step: nothing was lost at zero
     pub vertices : (v : ℕ) → v < (in_use g).nv → pos (at after.registers v).grown ≡ pos (at e.before.registers v).grown +ℤ share g v e
     -- "an edge whose ends showed different shadow nodes in the finding before that step"

@@ -12,13 +12,12 @@ use Rattle.rules.specs.Words.{unpacked}
 use Rattle.rules.specs.Run.{Call, execute, word, clear, seek, seek_on, look, call}
 use Rattle.rules.specs.declared.graph.Graph.{Graph}
 use Rattle.rules.specs.declared.state.State.{State}
-use Rattle.rules.specs.declared.finding.Answer.{Answer}
-use Rattle.rules.specs.declared.finding.Answer.TheVariants.{Found, Refused}
+use Rattle.rules.specs.Types.{Answer, Unpacked}
+use Rattle.std.specs.Prelude.{Err, Ok}
 use Rattle.rules.specs.declared.instruction.CompactGrowState.{CompactGrowState}
 use Rattle.rules.specs.declared.instruction.Instruction.{Instruction}
 use Rattle.rules.specs.declared.instruction.Instruction.TheVariants.{SetSpeed, SetBlossom, AddDefectVertex, FindObstacle, Grow as GrowBy, LoadDefectsExternal}
-use Rattle.rules.specs.declared.instruction.Unpacked.{Unpacked}
-use Rattle.rules.specs.declared.instruction.Unpacked.TheVariants as U
+use Rattle.rules.specs.declared.instruction.Asked.TheVariants as U
 
 -- "length times the speed"
 unfoldable pub times : CompactGrowState → ℕ → ℤ
@@ -40,8 +39,8 @@ grows s (LoadDefectsExternal t) = []
 
 -- "A growth step is a completed Grow"
 abbrev pub if_done : List GrowthStep → Answer → List GrowthStep
-if_done es (Found f) = es
-if_done es (Refused r) = []
+if_done es (Ok f) = es
+if_done es (Err r) = []
 
 module _ (g : Graph) where
   unfoldable pub was_stalled : State → ℕ → Bool
@@ -67,9 +66,9 @@ module _ (g : Graph) where
 
   -- the steps since the last reset, where es were those before the call
   abbrev pub after_word : State → List GrowthStep → Unpacked → List GrowthStep
-  after_word s es (U.Says i) = of_instruction s i ++ es
-  after_word s es U.Reset = []
-  after_word s es (U.Refused r) = es
+  after_word s es (Ok (U.Says i)) = of_instruction s i ++ es
+  after_word s es (Ok U.Reset) = []
+  after_word s es (Err r) = es
 
   unfoldable pub noted : State → List GrowthStep → Call → List GrowthStep
   noted s es (execute i) = of_instruction s i ++ es

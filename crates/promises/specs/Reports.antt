@@ -8,7 +8,7 @@ use Rattle.rules.specs.declared.graph.Graph.{Graph}
 use Rattle.rules.specs.declared.state.State.{State}
 use Rattle.rules.specs.declared.finding.Tally.{Tally}
 use Rattle.rules.specs.declared.finding.Sought.TheVariants as S
-use Rattle.rules.specs.declared.finding.Listed.TheVariants as L
+use Rattle.std.specs.Prelude.{Err, Ok}
 use Rattle.promises.specs.Ledger.{sum, noted}
 
 -- t is reported, with so much of the maximum left, of a search that began with the maximum m and made the steps es
@@ -43,8 +43,8 @@ NotBegun m es (paired n ps) = ⊥
 
 -- the reply to a listing: all pairs, or "19: pair list longer than the buffer lent" and none of them
 abbrev pub Lists : State → ℕ → Reply → Type 0
-Lists s room (paired (L.Count n) es) = (es ≡ pairs s) × (n ≡ length es) × (n ≤ room)
-Lists s room (paired (L.Refused r) es) = (es ≡ []) × (refusal_number r ≡ 19) × (room < length (pairs s))
+Lists s room (paired (Ok n) es) = (es ≡ pairs s) × (n ≡ length es) × (n ≤ room)
+Lists s room (paired (Err r) es) = (es ≡ []) × (refusal_number r ≡ 19) × (room < length (pairs s))
 Lists s room (executed a) = ⊥
 Lists s room (carried a) = ⊥
 Lists s room cleared = ⊥

@@ -7,8 +7,8 @@ use Rattle.rules.specs.Search.{GrowthStep, Ended, ordered}
 use Rattle.rules.specs.Run.{Call, execute, run}
 use Rattle.rules.specs.declared.graph.Graph.{Graph}
 use Rattle.rules.specs.declared.state.State.{State}
-use Rattle.rules.specs.declared.finding.Answer.{Answer}
-use Rattle.rules.specs.declared.finding.Answer.TheVariants.{Found, Refused}
+use Rattle.rules.specs.Types.{Answer}
+use Rattle.std.specs.Prelude.{Err, Ok}
 use Rattle.rules.specs.declared.finding.Finding.{Finding}
 use Rattle.rules.specs.declared.finding.Finding.TheVariants.{GrowLength, Conflict}
 use Rattle.rules.specs.declared.finding.Length.TheVariants.{NoLimit, Ahead, Behind}
@@ -22,14 +22,14 @@ module _ (g : Graph) where
   pub record Link (s : State) (e : GrowthStep) (t : State) : Type 0 where
     -- "Repeat FindObstacle": the length that it found, and the state that it left
     pub limit : ℕ
-    pub found : step g s FindObstacle ≡ record { state = e.before; answer = Found (GrowLength (Ahead limit)) }
+    pub found : step g s FindObstacle ≡ record { state = e.before; answer = Ok (GrowLength (Ahead limit)) }
     -- "clamp to the maximum; at 0 stop"
     pub clamped : e.length ≡ min limit e.before.maximum
     pub some : 1 ≤ e.length
     -- "else Grow and lower the maximum"
     pub after : State
     pub told : Finding
-    pub grew : step g e.before (Grow e.length) ≡ record { state = after; answer = Found told }
+    pub grew : step g e.before (Grow e.length) ≡ record { state = after; answer = Ok told }
     pub lowered : t ≡ with_maximum (after.maximum - e.length) after
 
   -- from s, the last step first, to a state
@@ -39,16 +39,16 @@ module _ (g : Graph) where
 
   -- a Grow by n that would have been the next step: "at 0 stop with length 0", or it is refused
   pub data Halts (s : State) (n : ℕ) : Answer → Type 0 where
-    at_zero : n ≡ 0 → Halts s n (Found (GrowLength (Ahead 0)))
-    refused : {r : Refusal} → (step g s (Grow n)).answer ≡ Refused r → Halts s n (Refused r)
+    at_zero : n ≡ 0 → Halts s n (Ok (GrowLength (Ahead 0)))
+    refused : {r : Refusal} → (step g s (Grow n)).answer ≡ Err r → Halts s n (Err r)
 
   -- what a search answers after its last finding, which left the state s
   abbrev pub Concludes : State → Answer → Answer → Type 0
-  Concludes s (Refused r) a = a ≡ Refused r
-  Concludes s (Found (Conflict x y)) a = a ≡ Found (ordered x y)
-  Concludes s (Found (GrowLength NoLimit)) a = a ≡ Found (GrowLength NoLimit)
-  Concludes s (Found (GrowLength (Behind n))) a = a ≡ Refused NegativeLength
-  Concludes s (Found (GrowLength (Ahead n))) a = Halts s (min n s.maximum) a
+  Concludes s (Err r) a = a ≡ Err r
+  Concludes s (Ok (Conflict x y)) a = a ≡ Ok (ordered x y)
+  Concludes s (Ok (GrowLength NoLimit)) a = a ≡ Ok (GrowLength NoLimit)
+  Concludes s (Ok (GrowLength (Behind n))) a = a ≡ Err NegativeLength
+  Concludes s (Ok (GrowLength (Ahead n))) a = Halts s (min n s.maximum) a
 
   pub record IsTrail (s : State) (a : Ended) : Type 0 where
     -- the state after the last step

@@ -1,1 +1,2 @@
 pub mod Below
+pub mod Walk

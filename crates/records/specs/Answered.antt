@@ -1,12 +1,12 @@
 -- What a record is answered, before any text is made of it.
-use Rattle.std.specs.Prelude.{ℕ, Bool, true, false}
+use Rattle.std.specs.Prelude.{ℕ, Bool, true, false, Ok}
 use Rattle.std.proofs.Math.Option.{Option, none, some}
 use Rattle.rules.specs.Run.{Call, Reply, executed, carried, cleared, found, paired, call}
 use Rattle.rules.specs.Listing.{record_call}
 use Rattle.rules.specs.declared.graph.Graph.{Graph}
 use Rattle.rules.specs.declared.state.State.{State}
 use Rattle.rules.specs.Instruct.{word_answer}
-use Rattle.rules.specs.declared.finding.WordAnswer.TheVariants.{Reset}
+use Rattle.rules.specs.declared.finding.Carried.TheVariants.{Reset}
 use Rattle.records.specs.declared.Answered.{Answered}
 use Rattle.records.specs.declared.Answered.TheVariants.{Word, Search, Pairs, Unknown}
 
@@ -19,7 +19,7 @@ pub record Answer : Type 0 where
 abbrev pub answer_of : Reply → Answered
 answer_of (executed a) = Word (word_answer a)
 answer_of (carried a) = Word a
-answer_of cleared = Word Reset
+answer_of cleared = Word (Ok Reset)
 answer_of (found a left) = Search a left
 answer_of (paired n es) = Pairs
 

@@ -3,86 +3,50 @@
 
 mod input;
 
-ghost use Rattle.std.specs.Prelude.{◌≤◌, length};
-
-use crate::input::refill;
-use batch::read_full;
+use crate::input::Held;
+use batch::buffer;
 use records::Stop;
-use rules::graph::{Graph, Opening};
+use rules::graph::{Accepted, Graph};
 use rules::state::State;
 use session::run_chunk;
 use std::io::Input;
-use text_out::{gets_on, large_buffer, put, show_end, show_head, show_refusal};
+use text_out::{gets_on, put, show_end, show_head, show_refusal};
 
-fn wants_bytes(stop: Stop) -> bool {
-    match stop {
-        Stop::WantsBytes => true,
-        Stop::WantsRoom => false,
-        Stop::Ended => false,
-    }
-}
-
-// What was read and is not used yet stands from `from` to `to`. The input may never end, so the turns are counted, up to a number that no run
-// reaches.
+// The input may never end, so the turns are counted, up to a number that no run reaches.
 fn replay(
     rt: &(impl Input + Print + Eprint),
     graph: Graph,
     first: State,
-    input: &mut [u8],
-    start: usize,
-    read: usize,
+    input: &mut Held,
     out: &mut [u8],
-)
-    requires { (start ≤ read) × (read ≤ length input.old) }
-{
+) {
     let mut state = first;
-    let mut from = start;
-    let mut to = read;
     for _ in 0..u64::MAX {
-        let done = run_chunk(graph, state, &input[from..to], out);
-        let stop = done.stop;
+        let done = run_chunk(graph, state, input.unused(), out);
         state = done.state;
-        from += done.used;
-        if !put(rt, out, done.written) {
+        input.pass(done.used);
+        if !put(rt, out, done.written) || !gets_on(rt, done.stop, done.used) {
             return;
         }
-        if !gets_on(rt, stop, done.used) {
+        if matches!(done.stop, Stop::WantsBytes) && !input.refill(rt) {
+            show_end(rt, out, input.unused().len());
             return;
-        }
-        if wants_bytes(stop) {
-            let left = to - from;
-            to = refill(rt, input, from, to);
-            from = 0;
-            if to == left {
-                show_end(rt, out, left);
-                return;
-            }
         }
     }
 }
 
-// The records of an image that was opened start inside what was read.
-fn inside(start: usize, read: usize) -> usize
-    ensures { result ≤ read }
-{
-    if start < read { start } else { read }
-}
-
 fn main(rt: HostRuntime) {
-    let mut input = large_buffer();
-    let mut out = large_buffer();
-    let n = read_full(&mut rt.reader(), &mut input);
-    let decoder = comb::open(&input[0..n]);
-    let opening = decoder.opening;
-    match opening {
-        Opening::Refused(why) => {
+    let mut input = Held::read(&rt);
+    let mut out = buffer::<65_536>();
+    let decoder = comb::open(input.unused());
+    match decoder.opening {
+        Err(why) => {
             show_refusal(&rt, &mut out, why);
         }
-        Opening::Accepted { units, start } => {
-            let graph = decoder.graph;
-            let state = decoder.state;
-            if show_head(&rt, &mut out, graph, units) {
-                replay(&rt, graph, state, &mut input, inside(start, n), n, &mut out);
+        Ok(Accepted { units, start }) => {
+            input.pass(start);
+            if show_head(&rt, &mut out, decoder.graph, units) {
+                replay(&rt, decoder.graph, decoder.state, &mut input, &mut out);
             }
         }
     }

@@ -10,10 +10,9 @@ use Rattle.rules.specs.Run.{list, Call, execute, look}
 use Rattle.rules.specs.declared.instruction.CompactGrowState.TheVariants.{Grow}
 use Rattle.rules.specs.declared.instruction.Instruction.{Instruction}
 use Rattle.rules.specs.declared.instruction.Instruction.TheVariants.{SetSpeed, SetBlossom, AddDefectVertex, FindObstacle, Grow as GrowBy, LoadDefectsExternal}
-use Rattle.rules.specs.declared.instruction.Unpacked.{Unpacked}
-use Rattle.rules.specs.declared.instruction.Unpacked.TheVariants.{Says, Reset, Refused}
-use Rattle.rules.specs.declared.instruction.Packed.{Packed}
-use Rattle.rules.specs.declared.instruction.Packed.TheVariants as P
+use Rattle.rules.specs.Types.{Packed, Unpacked}
+use Rattle.std.specs.Prelude.{Err, Ok}
+use Rattle.rules.specs.declared.instruction.Asked.TheVariants.{Says, Reset}
 use Rattle.rules.specs.declared.refusal.Refusal.TheVariants.{NotCarried, OutOfBounds}
 use Rattle.rules.proofs.Text.{text}
 use Rattle.rules.proofs.Computed.{Aspect, listing, registers, weights, lines, computed}
@@ -49,7 +48,7 @@ expects (fetches input output) = numbers output
 expects (answers input calls output) = numbers (text output)
 expects (carries w u) = asked u
 expects (packs i w) = word w
-expects (resets w) = word (P.Word w)
+expects (resets w) = word (Ok w)
 
 pub examples : List Example
 examples =
@@ -105,22 +104,22 @@ examples =
     "444354 0100 01 0200 0300 0000 01FFFF 00FFFF 00000100030000000000 00000100060000000000 00000100080000000000"
     (0 ∷ 2 ∷ 4 ∷ [])
     -- L: words SetSpeed(5, Grow) 688128, SetBlossom(3, 7) 393245, AddDefectVertex(4, 0) 524290, Grow 2 180, reset 36, load 5 655404
-    ∷ carries 688_128 (Says (SetSpeed (record { 0 = 5 }) Grow))
-    ∷ carries 393_245 (Says (SetBlossom (record { 0 = 3 }) (record { 0 = 7 })))
-    ∷ carries 524_290 (Says (AddDefectVertex (record { 0 = 4 }) (record { 0 = 0 })))
-    ∷ carries 180 (Says (GrowBy 2))
-    ∷ carries 36 Reset
-    ∷ carries 655_404 (Says (LoadDefectsExternal (record { 0 = 5 })))
+    ∷ carries 688_128 (Ok (Says (SetSpeed (record { 0 = 5 }) Grow)))
+    ∷ carries 393_245 (Ok (Says (SetBlossom (record { 0 = 3 }) (record { 0 = 7 }))))
+    ∷ carries 524_290 (Ok (Says (AddDefectVertex (record { 0 = 4 }) (record { 0 = 0 }))))
+    ∷ carries 180 (Ok (Says (GrowBy 2)))
+    ∷ carries 36 (Ok Reset)
+    ∷ carries 655_404 (Ok (Says (LoadDefectsExternal (record { 0 = 5 }))))
     -- "3, 60 and 98304 get 12"
-    ∷ carries 3 (Refused NotCarried)
-    ∷ carries 60 (Refused NotCarried)
-    ∷ carries 98_304 (Refused NotCarried)
-    ∷ packs (SetSpeed (record { 0 = 5 }) Grow) (P.Word 688_128)
-    ∷ packs (SetBlossom (record { 0 = 3 }) (record { 0 = 7 })) (P.Word 393_245)
-    ∷ packs (AddDefectVertex (record { 0 = 4 }) (record { 0 = 0 })) (P.Word 524_290)
-    ∷ packs (GrowBy 2) (P.Word 180)
-    ∷ packs (LoadDefectsExternal (record { 0 = 5 })) (P.Word 655_404)
-    ∷ packs (LoadDefectsExternal (record { 0 = 32_768 })) (P.Refused OutOfBounds)
+    ∷ carries 3 (Err NotCarried)
+    ∷ carries 60 (Err NotCarried)
+    ∷ carries 98_304 (Err NotCarried)
+    ∷ packs (SetSpeed (record { 0 = 5 }) Grow) (Ok 688_128)
+    ∷ packs (SetBlossom (record { 0 = 3 }) (record { 0 = 7 })) (Ok 393_245)
+    ∷ packs (AddDefectVertex (record { 0 = 4 }) (record { 0 = 0 })) (Ok 524_290)
+    ∷ packs (GrowBy 2) (Ok 180)
+    ∷ packs (LoadDefectsExternal (record { 0 = 5 })) (Ok 655_404)
+    ∷ packs (LoadDefectsExternal (record { 0 = 32_768 })) (Err OutOfBounds)
     ∷ resets 36
     -- "Readings to avoid"; propagation across two edges is J
     -- a FusionMatch that holds: its edge is not counted tight

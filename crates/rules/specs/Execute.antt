@@ -14,8 +14,10 @@ use Rattle.rules.specs.declared.instruction.Instruction.TheVariants.{SetSpeed, S
 use Rattle.rules.specs.declared.refusal.Refusal.{Refusal}
 use Rattle.rules.specs.declared.refusal.Refusal.TheVariants as R
 use Rattle.rules.specs.declared.registers.VertexRegisters.{VertexRegisters}
-use Rattle.rules.specs.declared.registers.Executed.{Executed}
-use Rattle.rules.specs.declared.registers.Executed.TheVariants.{Done, BelowZero, AboveBound}
+use Rattle.rules.specs.Types.{Executed}
+use Rattle.std.specs.Prelude.{Err, Ok}
+use Rattle.rules.specs.declared.registers.MoveError.{MoveError}
+use Rattle.rules.specs.declared.registers.MoveError.TheVariants.{BelowZero, AboveBound}
 
 -- ---- one register changed, or a few
 
@@ -39,35 +41,37 @@ led s n t x = record { speed = s; grown = x.grown; is_virtual = x.is_virtual; is
 
 -- "grown plus speed times length"; 14 below 0, 15 "above 67,108,863"
 unfoldable pub moved : CompactGrowState → ℕ → VertexRegisters → Executed
-moved Stay l x = Done x
-moved Grow l x = pick (ltb 67_108_863 (x.grown + l)) AboveBound (Done (with_grown (x.grown + l) x))
-moved Shrink l x = pick (ltb x.grown l) BelowZero (Done (with_grown (x.grown - l) x))
+moved Stay l x = Ok x
+moved Grow l x = pick (ltb 67_108_863 (x.grown + l)) (Err AboveBound) (Ok (with_grown (x.grown + l) x))
+moved Shrink l x = pick (ltb x.grown l) (Err BelowZero) (Ok (with_grown (x.grown - l) x))
 
 -- layer is the vertex's own; still where it is stalled, or virtual with a layer
 unfoldable pub execute : Instruction → ℕ → ℕ → Bool → VertexRegisters → Executed
 -- "SetSpeed: vertices with that node"
-execute (SetSpeed n s) v layer still x = Done (pick (same_node x.node n) (with_speed s x) x)
+execute (SetSpeed n s) v layer still x = Ok (pick (same_node x.node n) (with_speed s x) x)
 -- "SetBlossom: vertices whose node or root is the given one get the blossom as node and Grow; the root stays"
 execute (SetBlossom n b) v layer still x =
-    Done (pick (same_node x.node n or same_node x.root n) (led Grow b x.root x) x)
+    Ok (pick (same_node x.node n or same_node x.root n) (led Grow b x.root x) x)
 -- "AddDefectVertex: defect, Grow, node and root; an unknown vertex changes no one"
-execute (AddDefectVertex w n) v layer still x = Done (pick (eqb w.0 v) (as_defect n x) x)
+execute (AddDefectVertex w n) v layer still x = Ok (pick (eqb w.0 v) (as_defect n x) x)
 -- "FindObstacle: none"
-execute FindObstacle v layer still x = Done x
+execute FindObstacle v layer still x = Ok x
 -- "Grow: grown plus speed times length unless stalled, or virtual with a layer"
-execute (GrowBy l) v layer still x = pick still (Done x) (moved x.speed l x)
+execute (GrowBy l) v layer still x = pick still (Ok x) (moved x.speed l x)
 -- "LoadDefectsExternal: vertices of that layer cease to be virtual"
-execute (LoadDefectsExternal t) v layer still x = Done (pick (eqb layer t.0) (not_virtual x) x)
+execute (LoadDefectsExternal t) v layer still x = Ok (pick (eqb layer t.0) (not_virtual x) x)
+
+abbrev pub refusal_for : MoveError → Refusal
+refusal_for BelowZero = R.BelowZero
+refusal_for AboveBound = R.AboveBound
 
 abbrev pub refusal_of : Executed → Option Refusal
-refusal_of (Done x) = none
-refusal_of BelowZero = some R.BelowZero
-refusal_of AboveBound = some R.AboveBound
+refusal_of (Ok x) = none
+refusal_of (Err e) = some (refusal_for e)
 
 abbrev pub done_or : VertexRegisters → Executed → VertexRegisters
-done_or x (Done y) = y
-done_or x BelowZero = x
-done_or x AboveBound = x
+done_or x (Ok y) = y
+done_or x (Err e) = x
 
 -- ---- all vertices
 

@@ -8,7 +8,7 @@ use Rattle.laws.specs.Listed.{indices, slots}
 use Rattle.laws.specs.Table.{table, paint}
 use Rattle.rules.specs.declared.graph.Graph.{Graph}
 use Rattle.rules.specs.declared.graph.Opened.{Opened}
-use Rattle.rules.specs.declared.graph.Opening.TheVariants.{Accepted, Refused}
+use Rattle.std.specs.Prelude.{Err, Ok}
 use Rattle.rules.specs.declared.refusal.Refusal.{Refusal}
 use Rattle.rules.specs.declared.refusal.Refusal.TheVariants as R
 
@@ -194,8 +194,8 @@ blank_graph = record {
 
 -- "no decoder" where an image is refused
 abbrev pub opened_by : List ℕ → Option Refusal → Opened
-opened_by bs none = record { graph = graph_of bs; opening = Accepted (unit_count bs) (session_at bs) }
-opened_by bs (some r) = record { graph = blank_graph; opening = Refused r }
+opened_by bs none = record { graph = graph_of bs; opening = Ok (record { units = unit_count bs; start = session_at bs }) }
+opened_by bs (some r) = record { graph = blank_graph; opening = Err r }
 
 unfoldable pub opened : List ℕ → Opened
 opened bs = opened_by bs (image_refusal bs)

@@ -15,19 +15,17 @@ use Rattle.rules.specs.declared.graph.Graph.{Graph}
 use Rattle.rules.specs.declared.state.State.{State}
 use Rattle.rules.specs.declared.state.Cycle.{Cycle}
 use Rattle.rules.specs.declared.state.WordCycle.{WordCycle}
-use Rattle.rules.specs.declared.finding.Answer.{Answer}
-use Rattle.rules.specs.declared.finding.Answer.TheVariants.{Found, Refused}
-use Rattle.rules.specs.declared.finding.WordAnswer.{WordAnswer}
-use Rattle.rules.specs.declared.finding.WordAnswer.TheVariants as W
+use Rattle.rules.specs.Types.{Answer, Unpacked, WordAnswer}
+use Rattle.std.specs.Prelude.{Err, Ok}
+use Rattle.rules.specs.declared.finding.Carried.TheVariants as W
 use Rattle.rules.specs.declared.instruction.Instruction.{Instruction}
-use Rattle.rules.specs.declared.instruction.Unpacked.{Unpacked}
-use Rattle.rules.specs.declared.instruction.Unpacked.TheVariants as U
+use Rattle.rules.specs.declared.instruction.Asked.TheVariants as U
 use Rattle.rules.specs.declared.refusal.Refusal.{Refusal}
 use Rattle.rules.specs.declared.refusal.Refusal.TheVariants.{OutOfBounds, OddRemaining}
 
 -- a refused instruction: "state before that instruction"
 abbrev pub refused : State → Refusal → Cycle
-refused s n = record { state = s; answer = Refused n }
+refused s n = record { state = s; answer = Err n }
 
 -- g is a graph that is all in use
 module _ (g : Graph) where
@@ -47,7 +45,7 @@ module _ (g : Graph) where
       pick (some_odd g.edges fs ys ss g.ne) (refused s OddRemaining)
       (record {
         state = record { registers = ys; weights = s.weights; stalled = stalled; maximum = s.maximum };
-        answer = Found (finding g.edges fs ys ss g.ne g.nv);
+        answer = Ok (finding g.edges fs ys ss g.ne g.nv);
       })
 
   -- stages 4 to 8 on the registers xs after stage 3
@@ -81,16 +79,16 @@ instruct g s i = unless_barred (in_use g) s i (barred (in_use g) i)
 -- ---- a word
 
 abbrev pub word_answer : Answer → WordAnswer
-word_answer (Found f) = W.Found f
-word_answer (Refused n) = W.Refused n
+word_answer (Ok f) = Ok (W.Found f)
+word_answer (Err n) = Err n
 
 abbrev pub word_cycle : Cycle → WordCycle
 word_cycle c = record { state = c.state; answer = word_answer c.answer }
 
 abbrev pub carried_out : Graph → State → Unpacked → WordCycle
-carried_out g s (U.Says i) = word_cycle (instruct g s i)
-carried_out g s U.Reset = record { state = reset g s; answer = W.Reset }
-carried_out g s (U.Refused n) = record { state = s; answer = W.Refused n }
+carried_out g s (Ok (U.Says i)) = word_cycle (instruct g s i)
+carried_out g s (Ok U.Reset) = record { state = reset g s; answer = Ok W.Reset }
+carried_out g s (Err n) = record { state = s; answer = Err n }
 
 -- "12: word not carried, decoder as before"
 unfoldable pub word_run : Graph → State → ℕ → WordCycle

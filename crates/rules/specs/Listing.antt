@@ -7,20 +7,16 @@ use Rattle.rules.specs.State.{first_state}
 use Rattle.rules.specs.Image.{opened, vertex_count, edge_count}
 use Rattle.rules.specs.Run.{list, Call, word, seek, seek_on, look, Reply, executed, carried, cleared, found, paired, call}
 use Rattle.rules.specs.declared.graph.Graph.{Graph}
-use Rattle.rules.specs.declared.graph.Opening.{Opening}
-use Rattle.rules.specs.declared.graph.Opening.TheVariants.{Accepted, Refused}
+use Rattle.rules.specs.Types.{Node, Opening}
+use Rattle.std.specs.Prelude.{Err, None, Ok, Some}
 use Rattle.rules.specs.declared.state.State.{State}
 use Rattle.rules.specs.declared.finding.Length.{Length}
 use Rattle.rules.specs.declared.finding.Length.TheVariants.{NoLimit, Ahead, Behind}
-use Rattle.rules.specs.declared.finding.Node.{Node}
-use Rattle.rules.specs.declared.finding.Node.TheVariants.{Absent, Number}
 use Rattle.rules.specs.declared.finding.Finding.{Finding}
 use Rattle.rules.specs.declared.finding.Finding.TheVariants.{GrowLength, Conflict}
-use Rattle.rules.specs.declared.finding.Answer.TheVariants as A
-use Rattle.rules.specs.declared.finding.WordAnswer.TheVariants as W
+use Rattle.rules.specs.declared.finding.Carried.TheVariants as W
 use Rattle.rules.specs.declared.finding.Tally.{Tally}
 use Rattle.rules.specs.declared.finding.Sought.TheVariants as S
-use Rattle.rules.specs.declared.finding.Listed.TheVariants as L
 use Rattle.rules.specs.declared.refusal.Refusal.{Refusal}
 use Rattle.rules.specs.declared.refusal.Refusal.TheVariants.{SessionRecord}
 
@@ -45,8 +41,8 @@ length_text (Behind n) = 32 ∷ 45 ∷ decimal n
 
 -- "An absent node or touch is `-`, the boundary"
 abbrev pub node_text : Node → List ℕ
-node_text Absent = 32 ∷ 45 ∷ []
-node_text (Number n) = number n.0
+node_text None = 32 ∷ 45 ∷ []
+node_text (Some n) = number n.0
 
 -- "`g` length or `c` node, node, touch, touch, vertex, vertex"
 abbrev pub finding_text : Finding → List ℕ
@@ -72,17 +68,17 @@ line text = text ++ (10 ∷ [])
 -- "`i` finding, `z` for reset, `p` and edges, or `s` finding, growth, steps, maximum left"; "Refusal: `r` and number, then for a begun search
 -- growth, steps, maximum left"
 abbrev pub reply_text : Reply → List ℕ
-reply_text (executed (A.Found f)) = 105 ∷ finding_text f
-reply_text (executed (A.Refused r)) = refusal_text r
-reply_text (carried (W.Found f)) = 105 ∷ finding_text f
-reply_text (carried W.Reset) = 122 ∷ []
-reply_text (carried (W.Refused r)) = refusal_text r
+reply_text (executed (Ok f)) = 105 ∷ finding_text f
+reply_text (executed (Err r)) = refusal_text r
+reply_text (carried (Ok (W.Found f))) = 105 ∷ finding_text f
+reply_text (carried (Ok W.Reset)) = 122 ∷ []
+reply_text (carried (Err r)) = refusal_text r
 reply_text cleared = 122 ∷ []
 reply_text (found (S.NotBegun r) left) = refusal_text r
 reply_text (found (S.Found f t) left) = 115 ∷ (finding_text f ++ tally_text t left)
 reply_text (found (S.Stopped r t) left) = refusal_text r ++ tally_text t left
-reply_text (paired (L.Count n) es) = 112 ∷ numbers es
-reply_text (paired (L.Refused r) es) = refusal_text r
+reply_text (paired (Ok n) es) = 112 ∷ numbers es
+reply_text (paired (Err r) es) = refusal_text r
 
 -- "one line per record"
 unfoldable pub lines : List Reply → List ℕ
@@ -130,8 +126,8 @@ first_line v e u = line (68 ∷ 67 ∷ 84 ∷ (number 1 ++ number v ++ number e 
 
 -- "A refused image prints only `bad` and the number, in place of that line"
 abbrev pub listing_of : List ℕ → Graph → Opening → List ℕ
-listing_of bs g (Accepted units start) = first_line (vertex_count bs) (edge_count bs) units ++ (session g (first_state g) (drop start bs)).text
-listing_of bs g (Refused r) = line (98 ∷ 97 ∷ 100 ∷ number (refusal_number r))
+listing_of bs g (Ok a) = first_line (vertex_count bs) (edge_count bs) a.units ++ (session g (first_state g) (drop a.start bs)).text
+listing_of bs g (Err r) = line (98 ∷ 97 ∷ 100 ∷ number (refusal_number r))
 
 unfoldable pub listing : List ℕ → List ℕ
 listing bs = listing_of bs (opened bs).graph (opened bs).opening

@@ -2,8 +2,8 @@
 use Rattle.std.specs.Prelude.{ℕ, suc, Bool, true, false, List, [], ◌∷◌, ◌++◌, leb, length, drop}
 use Rattle.laws.specs.Choice.{pick}
 use Rattle.rules.specs.declared.state.State.{State}
-use Rattle.rules.specs.declared.finding.Listed.{Listed}
-use Rattle.rules.specs.declared.finding.Listed.TheVariants.{Count, Refused}
+use Rattle.rules.specs.Types.{Listed}
+use Rattle.std.specs.Prelude.{Err, Ok}
 use Rattle.rules.specs.declared.refusal.Refusal.TheVariants.{ListTooLong}
 
 -- the indices of the raised flags, the first flag's index being i
@@ -18,7 +18,7 @@ pairs s = raised_from 0 s.stalled
 -- "19: pair list longer than the buffer lent; buffer and decoder unchanged". A listing "writes edge numbers into a u16 buffer from its start,
 -- gives their number and touches no other place"
 unfoldable pub listed : State → ℕ → Listed
-listed s room = pick (leb (length (pairs s)) room) (Count (length (pairs s))) (Refused ListTooLong)
+listed s room = pick (leb (length (pairs s)) room) (Ok (length (pairs s))) (Err ListTooLong)
 
 unfoldable pub buffered : State → List ℕ → List ℕ
 buffered s buffer = pick (leb (length (pairs s)) (length buffer)) (pairs s ++ drop (length (pairs s)) buffer) buffer

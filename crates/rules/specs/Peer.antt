@@ -7,16 +7,16 @@ use Rattle.rules.specs.Graph.{touches, far_end}
 use Rattle.rules.specs.Registers.{at, growing}
 use Rattle.rules.specs.Fetch.{tight}
 use Rattle.rules.specs.declared.registers.VertexRegisters.{VertexRegisters}
-use Rattle.rules.specs.declared.registers.PropagatingPeer.{PropagatingPeer}
-use Rattle.rules.specs.declared.registers.PropagatingPeer.TheVariants.{Nobody, Leads}
+use Rattle.rules.specs.Types.{PropagatingPeer}
+use Rattle.std.specs.Prelude.{None, Some}
 
 -- "not virtual and has Grow after stage 3"
 unfoldable pub is_propagating : VertexRegisters → Bool
 is_propagating x = growing x.speed and not x.is_virtual
 
 abbrev pub lead_by : List ℕ → Option ℕ → PropagatingPeer
-lead_by xs none = Nobody
-lead_by xs (some p) = Leads (at xs p).node (at xs p).root
+lead_by xs none = None
+lead_by xs (some p) = Some (record { node = (at xs p).node; root = (at xs p).root })
 
 module _ (es fs xs : List ℕ) (ne : ℕ) where
   -- "tight on new grown amounts and old fetch weight"
@@ -28,4 +28,4 @@ module _ (es fs xs : List ℕ) (ne : ℕ) where
 
   -- "for new grown amount 0, the first edge by index that .."
   unfoldable pub peer : ℕ → PropagatingPeer
-  peer v = pick (eqb (at xs v).grown 0) (lead_by xs (first ne (served_by v))) Nobody
+  peer v = pick (eqb (at xs v).grown 0) (lead_by xs (first ne (served_by v))) None

@@ -7,8 +7,8 @@ use Rattle.rules.specs.declared.finding.Length.{Length}
 use Rattle.rules.specs.declared.finding.Length.TheVariants.{NoLimit, Ahead, Behind}
 use Rattle.rules.specs.declared.finding.Finding.{Finding}
 use Rattle.rules.specs.declared.finding.Finding.TheVariants.{GrowLength, Conflict}
-use Rattle.rules.specs.declared.finding.Response.{Response}
-use Rattle.rules.specs.declared.finding.Response.TheVariants.{Reports, OddRemaining}
+use Rattle.rules.specs.Types.{Response}
+use Rattle.std.specs.Prelude.{Err, Ok}
 
 -- "the least length"
 abbrev pub least : Length → Length → Length
@@ -27,12 +27,12 @@ reduce (GrowLength l) (Conflict a b) = Conflict a b
 reduce (GrowLength l) (GrowLength m) = GrowLength (least l m)
 
 abbrev pub odd : Response → Bool
-odd (Reports f) = false
-odd OddRemaining = true
+odd (Ok f) = false
+odd (Err _) = true
 
 abbrev pub reported : Response → Finding
-reported (Reports f) = f
-reported OddRemaining = GrowLength NoLimit
+reported (Ok f) = f
+reported (Err _) = GrowLength NoLimit
 
 unfoldable pub vertex_finding : List ℕ → ℕ → Finding
 vertex_finding ys nv = up_to (λ v f. reduce f (vertex_report (at ys v))) (GrowLength NoLimit) nv

@@ -9,13 +9,11 @@ use Rattle.rules.specs.declared.instruction.CompactGrowState.TheVariants.{Stay, 
 use Rattle.rules.specs.declared.registers.VertexRegisters.{VertexRegisters}
 use Rattle.rules.specs.declared.finding.Length.{Length}
 use Rattle.rules.specs.declared.finding.Length.TheVariants.{NoLimit, Ahead, Behind}
-use Rattle.rules.specs.declared.finding.Node.{Node}
-use Rattle.rules.specs.declared.finding.Node.TheVariants.{Absent, Number}
+use Rattle.rules.specs.Types.{Node, Response, odd_remaining}
+use Rattle.std.specs.Prelude.{Err, None, Ok, Some}
 use Rattle.rules.specs.declared.finding.Side.{Side}
 use Rattle.rules.specs.declared.finding.Finding.{Finding}
 use Rattle.rules.specs.declared.finding.Finding.TheVariants.{GrowLength, Conflict}
-use Rattle.rules.specs.declared.finding.Response.{Response}
-use Rattle.rules.specs.declared.finding.Response.TheVariants.{Reports, OddRemaining}
 
 -- "A vertex at Shrink after stage 5 reports its new grown amount"
 unfoldable pub vertex_report : VertexRegisters → Finding
@@ -58,7 +56,7 @@ available s = same_node s.node no_node and not s.is_virtual
 
 -- a node as a finding shows it
 unfoldable pub shown : NodeIndex → Node
-shown n = pick (same_node n no_node or same_node n virtual_node) Absent (Number n)
+shown n = pick (same_node n no_node or same_node n virtual_node) None (Some n)
 
 abbrev pub side : VertexRegisters → ℕ → Side
 side s v = record { node = shown s.node; touch = shown s.root; vertex = record { 0 = v } }
@@ -67,20 +65,20 @@ side s v = record { node = shown s.node; touch = shown s.root; vertex = record {
 unfoldable pub limit : ℕ → Length → Response
 limit speed remaining =
     -- "16: odd remaining at joint speed 2 on an edge with different shadow nodes"
-    pick (eqb speed 2) (pick (is_odd remaining) OddRemaining (Reports (GrowLength (half remaining))))
-    (Reports (GrowLength remaining))
+    pick (eqb speed 2) (pick (is_odd remaining) (Err odd_remaining) (Ok (GrowLength (half remaining))))
+    (Ok (GrowLength remaining))
 
 -- a and b are the shadows of the ends v and w, which differ in node
 unfoldable pub meeting : VertexRegisters → VertexRegisters → ℕ → ℕ → Length → Response
 meeting a b v w remaining =
     -- "0 with neither end available .. is a Conflict; otherwise remaining / joint speed"
-    pick (is_zero remaining and not (available a) and not (available b)) (Reports (Conflict (side a v) (side b w)))
+    pick (is_zero remaining and not (available a) and not (available b)) (Ok (Conflict (side a v) (side b w)))
     (limit (joint a.speed b.speed) remaining)
 
 -- "An edge with equal shadow nodes, or joint speed not positive, reports no limit"
 unfoldable pub respond : VertexRegisters → VertexRegisters → ℕ → ℕ → Length → Response
 respond a b v w remaining =
-    pick (same_node a.node b.node or eqb (joint a.speed b.speed) 0) (Reports (GrowLength NoLimit)) (meeting a b v w remaining)
+    pick (same_node a.node b.node or eqb (joint a.speed b.speed) 0) (Ok (GrowLength NoLimit)) (meeting a b v w remaining)
 
 module _ (es fs ys : List ℕ) where
   -- "remaining = fetch weight less new grown amounts"

@@ -9,11 +9,9 @@ use Rattle.rules.specs.declared.state.State.{State}
 use Rattle.rules.specs.declared.state.Cycle.{Cycle}
 use Rattle.rules.specs.declared.state.WordCycle.{WordCycle}
 use Rattle.rules.specs.declared.state.Searched.{Searched}
-use Rattle.rules.specs.declared.finding.Answer.{Answer}
-use Rattle.rules.specs.declared.finding.WordAnswer.{WordAnswer}
+use Rattle.rules.specs.Types.{Answer, Listed, WordAnswer}
+use Rattle.std.specs.Prelude.{Err, Ok}
 use Rattle.rules.specs.declared.finding.Sought.{Sought}
-use Rattle.rules.specs.declared.finding.Listed.{Listed}
-use Rattle.rules.specs.declared.finding.Listed.TheVariants.{Count, Refused}
 use Rattle.rules.specs.declared.instruction.Instruction.{Instruction}
 
 -- what may be looked at
@@ -52,8 +50,8 @@ of_word c = record { state = c.state; reply = carried c.answer }
 
 -- "19: .. buffer and decoder unchanged": a refusal comes with no pairs
 abbrev pub of_list : Listed → List ℕ → Reply
-of_list (Count n) es = paired (Count n) es
-of_list (Refused r) es = paired (Refused r) []
+of_list (Ok n) es = paired (Ok n) es
+of_list (Err r) es = paired (Err r) []
 
 abbrev pub of_search : Searched → Turn
 of_search a = record { state = a.state; reply = found a.answer a.state.maximum }

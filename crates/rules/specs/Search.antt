@@ -8,13 +8,11 @@ use Rattle.rules.specs.declared.graph.Graph.{Graph}
 use Rattle.rules.specs.declared.state.State.{State}
 use Rattle.rules.specs.declared.state.Searched.{Searched}
 use Rattle.rules.specs.declared.finding.Length.TheVariants.{NoLimit, Ahead, Behind}
-use Rattle.rules.specs.declared.finding.Node.{Node}
-use Rattle.rules.specs.declared.finding.Node.TheVariants.{Absent, Number}
+use Rattle.rules.specs.Types.{Answer, Node}
+use Rattle.std.specs.Prelude.{Err, None, Ok, Some}
 use Rattle.rules.specs.declared.finding.Side.{Side}
 use Rattle.rules.specs.declared.finding.Finding.{Finding}
 use Rattle.rules.specs.declared.finding.Finding.TheVariants.{GrowLength, Conflict}
-use Rattle.rules.specs.declared.finding.Answer.{Answer}
-use Rattle.rules.specs.declared.finding.Answer.TheVariants.{Found, Refused}
 use Rattle.rules.specs.declared.finding.Tally.{Tally}
 use Rattle.rules.specs.declared.finding.Sought.{Sought}
 use Rattle.rules.specs.declared.finding.Sought.TheVariants as S
@@ -42,8 +40,8 @@ abbrev pub ends : Walk → Answer → Ended
 ends c a = record { walk = c; answer = a }
 
 abbrev pub is_absent : Node → Bool
-is_absent Absent = true
-is_absent (Number n) = false
+is_absent None = true
+is_absent (Some n) = false
 
 -- "Conflict: swap the sides if the first node is absent"
 abbrev pub ordered : Side → Side → Finding
@@ -68,8 +66,8 @@ grew c n s = record {
 }
 
 abbrev pub after_grow : Walk → ℕ → State → Answer → Turned
-after_grow c n s (Refused r) = stops (ends c (Refused r))
-after_grow c n s (Found f) = goes (grew c n s)
+after_grow c n s (Err r) = stops (ends c (Err r))
+after_grow c n s (Ok f) = goes (grew c n s)
 
 abbrev pub next : (Walk → Ended) → Turned → Ended
 next go (stops a) = a
@@ -78,19 +76,19 @@ next go (goes c) = go c
 module _ (g : Graph) where
   -- "at 0 stop with length 0; else Grow"
   unfoldable pub grow_by : Walk → ℕ → Turned
-  grow_by c zero = stops (ends c (Found (GrowLength (Ahead 0))))
+  grow_by c zero = stops (ends c (Ok (GrowLength (Ahead 0))))
   grow_by c (suc n) = let grown = step g c.state (Grow (suc n)) in after_grow c (suc n) grown.state grown.answer
 
   -- c is at the state after the finding
   unfoldable pub after_finding : Walk → Answer → Turned
-  after_finding c (Refused r) = stops (ends c (Refused r))
-  after_finding c (Found (Conflict a b)) = stops (ends c (Found (ordered a b)))
+  after_finding c (Err r) = stops (ends c (Err r))
+  after_finding c (Ok (Conflict a b)) = stops (ends c (Ok (ordered a b)))
   -- "No limit: stop, before clamping"
-  after_finding c (Found (GrowLength NoLimit)) = stops (ends c (Found (GrowLength NoLimit)))
+  after_finding c (Ok (GrowLength NoLimit)) = stops (ends c (Ok (GrowLength NoLimit)))
   -- "17: a search finds a negative length; state after that finding"
-  after_finding c (Found (GrowLength (Behind n))) = stops (ends c (Refused NegativeLength))
+  after_finding c (Ok (GrowLength (Behind n))) = stops (ends c (Err NegativeLength))
   -- "Otherwise clamp to the maximum"
-  after_finding c (Found (GrowLength (Ahead n))) = grow_by c (min n c.state.maximum)
+  after_finding c (Ok (GrowLength (Ahead n))) = grow_by c (min n c.state.maximum)
 
   -- "Repeat FindObstacle"
   unfoldable pub turn : Walk → Turned
@@ -98,7 +96,7 @@ module _ (g : Graph) where
 
   -- so many turns at most. A search is given enough (`ends_within` in promises), so the case without any is never reached
   unfoldable pub walked : ℕ → Walk → Ended
-  walked zero c = ends c (Found (GrowLength (Ahead 0)))
+  walked zero c = ends c (Ok (GrowLength (Ahead 0)))
   walked (suc n) c = next (λ d. walked n d) (turn c)
 
 abbrev pub begun : State → Walk
@@ -114,7 +112,7 @@ abbrev pub tally : Walk → Tally
 tally c = record { growth = c.growth; steps = c.steps }
 
 abbrev pub sought : Ended → Sought
-sought a = elim a.answer [ Found f ↦ S.Found f (tally a.walk) | Refused r ↦ S.Stopped r (tally a.walk) ]
+sought a = elim a.answer [ Ok f ↦ S.Found f (tally a.walk) | Err r ↦ S.Stopped r (tally a.walk) ]
 
 abbrev pub told : Ended → Searched
 told a = record { state = a.walk.state; answer = sought a }

@@ -7,13 +7,13 @@ use Rattle.rules.specs.Execute.{led, with_speed, waits}
 use Rattle.rules.specs.Peer.{peer}
 use Rattle.rules.specs.declared.instruction.CompactGrowState.TheVariants.{Stay, Grow}
 use Rattle.rules.specs.declared.registers.VertexRegisters.{VertexRegisters}
-use Rattle.rules.specs.declared.registers.PropagatingPeer.{PropagatingPeer}
-use Rattle.rules.specs.declared.registers.PropagatingPeer.TheVariants.{Nobody, Leads}
+use Rattle.rules.specs.Types.{PropagatingPeer}
+use Rattle.std.specs.Prelude.{None, Some}
 
 -- "if Shrink at grown 0 with a peer, the peer's node, root and Grow"
 abbrev pub yield : PropagatingPeer → VertexRegisters → VertexRegisters
-yield Nobody x = x
-yield (Leads n t) x = led Grow n t x
+yield None x = x
+yield (Some lead) x = led Grow lead.node lead.root x
 
 unfoldable pub yielded : PropagatingPeer → VertexRegisters → VertexRegisters
 yielded p x = pick (shrinking x.speed and eqb x.grown 0) (yield p x) x

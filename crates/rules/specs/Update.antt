@@ -7,8 +7,8 @@ use Rattle.rules.specs.Execute.{led}
 use Rattle.rules.specs.Peer.{peer}
 use Rattle.rules.specs.declared.instruction.CompactGrowState.TheVariants.{Stay, Grow}
 use Rattle.rules.specs.declared.registers.VertexRegisters.{VertexRegisters}
-use Rattle.rules.specs.declared.registers.PropagatingPeer.{PropagatingPeer}
-use Rattle.rules.specs.declared.registers.PropagatingPeer.TheVariants.{Nobody, Leads}
+use Rattle.rules.specs.Types.{PropagatingPeer}
+use Rattle.std.specs.Prelude.{None, Some}
 
 -- "a vertex neither defect nor virtual with grown 0"
 unfoldable pub is_loose : VertexRegisters → Bool
@@ -16,8 +16,8 @@ is_loose x = not x.is_defect and not x.is_virtual and eqb x.grown 0
 
 -- "takes the peer's node and root and Grow, or none, none, Stay"
 abbrev pub follow : PropagatingPeer → VertexRegisters → VertexRegisters
-follow Nobody x = led Stay no_node no_node x
-follow (Leads n t) x = led Grow n t x
+follow None x = led Stay no_node no_node x
+follow (Some lead) x = led Grow lead.node lead.root x
 
 unfoldable pub update : PropagatingPeer → VertexRegisters → VertexRegisters
 update p x = pick (is_loose x) (follow p x) x

@@ -10,10 +10,9 @@ use Rattle.rules.specs.declared.instruction.Instruction.{Instruction}
 use Rattle.rules.specs.declared.instruction.Instruction.TheVariants.{SetSpeed, SetBlossom, AddDefectVertex, FindObstacle, Grow as GrowBy, LoadDefectsExternal}
 use Rattle.rules.specs.declared.instruction.Field.{Field}
 use Rattle.rules.specs.declared.instruction.WordKind.{WordKind}
-use Rattle.rules.specs.declared.instruction.Unpacked.{Unpacked}
-use Rattle.rules.specs.declared.instruction.Unpacked.TheVariants.{Says, Reset, Refused}
-use Rattle.rules.specs.declared.instruction.Packed.{Packed}
-use Rattle.rules.specs.declared.instruction.Packed.TheVariants as P
+use Rattle.rules.specs.Types.{Packed, Unpacked}
+use Rattle.std.specs.Prelude.{Err, Ok}
+use Rattle.rules.specs.declared.instruction.Asked.TheVariants.{Says, Reset}
 use Rattle.rules.specs.declared.refusal.Refusal.TheVariants.{NotCarried, OutOfBounds}
 
 -- the number that stands in a field of a word
@@ -72,24 +71,24 @@ kind_of_word word = first 7 (kind_in word)
 
 -- the speed of a code: "speed 3 [gives] 12"
 unfoldable pub speed_asked : NodeIndex → ℕ → Unpacked
-speed_asked n code = get_or (Says (SetSpeed n Stay) ∷ Says (SetSpeed n Grow) ∷ Says (SetSpeed n Shrink) ∷ []) code (Refused NotCarried)
+speed_asked n code = get_or (Ok (Says (SetSpeed n Stay)) ∷ Ok (Says (SetSpeed n Grow)) ∷ Ok (Says (SetSpeed n Shrink)) ∷ []) code (Err NotCarried)
 
 -- what a word of the k-th kind asks with a in A and b in B
 unfoldable pub asks : ℕ → ℕ → ℕ → Unpacked
 asks k a b =
     get_or
     (speed_asked (record { 0 = a }) b
-    ∷ Says (SetBlossom (record { 0 = a }) (record { 0 = b }))
-    ∷ Says (AddDefectVertex (record { 0 = a }) (record { 0 = b }))
-    ∷ Says FindObstacle
-    ∷ Reset
-    ∷ Says (LoadDefectsExternal (record { 0 = a }))
-    ∷ Says (GrowBy a)
+    ∷ Ok (Says (SetBlossom (record { 0 = a }) (record { 0 = b })))
+    ∷ Ok (Says (AddDefectVertex (record { 0 = a }) (record { 0 = b })))
+    ∷ Ok (Says FindObstacle)
+    ∷ (Ok Reset)
+    ∷ Ok (Says (LoadDefectsExternal (record { 0 = a })))
+    ∷ Ok (Says (GrowBy a))
     ∷ [])
-    k (Refused NotCarried)
+    k (Err NotCarried)
 
 abbrev pub asks_in : ℕ → Option ℕ → Unpacked
-asks_in word none = Refused NotCarried
+asks_in word none = Err NotCarried
 asks_in word (some k) = asks k (field_of (kind_at k).a word) (field_of (kind_at k).b word)
 
 -- "Other codes, low 11 and speed 3 give 12. Spare bits are ignored on reading"
@@ -121,7 +120,7 @@ word_for (GrowBy l) = word_of (kind_at 6) l 0
 
 -- "The Rust packers lose or misplace high bits of large fields; ours give 13"
 unfoldable pub packed : Instruction → Packed
-packed i = pick (in_bounds i) (P.Word (word_for i)) (P.Refused OutOfBounds)
+packed i = pick (in_bounds i) (Ok (word_for i)) (Err OutOfBounds)
 
 unfoldable pub packed_reset : Packed
-packed_reset = P.Word (word_of (kind_at 4) 0 0)
+packed_reset = Ok (word_of (kind_at 4) 0 0)

@@ -4,11 +4,10 @@ ghost use Rattle.laws.specs.Choice.{pick, ◌or◌};
 ghost use Rattle.rules.specs.Execute as Execute;
 ghost use Rattle.rules.specs.Registers.{same_node};
 ghost use Rattle.rules.specs.declared.instruction.CompactGrowState.TheVariants.{Grow, Shrink};
-ghost use Rattle.rules.specs.declared.registers.Executed.TheVariants.{Done};
 
 use crate::index::{LayerId, NodeIndex, VertexIndex};
 use crate::instruction::{CompactGrowState, Instruction};
-use crate::registers::{Executed, VertexRegisters};
+use crate::registers::{MoveError, VertexRegisters};
 
 impl VertexRegisters {
     // speed, node and root at once
@@ -17,59 +16,61 @@ impl VertexRegisters {
     {
         VertexRegisters {
             speed,
-            grown: self.grown,
-            is_virtual: self.is_virtual,
-            is_defect: self.is_defect,
             node,
             root,
+            ..self
         }
     }
 
     pub fn with_speed(self, speed: CompactGrowState) -> VertexRegisters
         ensures { result ≡ Execute.with_speed speed self }
     {
-        self.led(speed, self.node, self.root)
+        VertexRegisters { speed, ..self }
     }
 
     // "SetSpeed: vertices with that node"
+    #[tactic(auto, using(laws::specs::Tests::tests))]
     fn set_speed(self, node: NodeIndex, speed: CompactGrowState) -> VertexRegisters
         ensures { result ≡ pick (same_node self.node node) (Execute.with_speed speed self) self }
     {
-        if self.node.0 == node.0 {
-            return self.with_speed(speed);
+        if self.node == node {
+            self.with_speed(speed)
+        } else {
+            self
         }
-        self
     }
 
     // "whose node or root is the given one"
-    fn belongs_to(self, node: NodeIndex) -> bool
+    #[tactic(auto, using(laws::specs::Tests::tests))]
+    pub fn belongs_to(self, node: NodeIndex) -> bool
         ensures { result ≡ (same_node self.node node or same_node self.root node) }
     {
-        if self.node.0 == node.0 {
-            return true;
-        }
-        self.root.0 == node.0
+        self.node == node || self.root == node
     }
 
     // "SetBlossom: vertices whose node or root is the given one get the blossom as node and Grow; the root stays"
+    #[tactic(auto, using(laws::specs::Tests::tests))]
     fn set_blossom(self, node: NodeIndex, blossom: NodeIndex) -> VertexRegisters
         ensures { result ≡ pick (same_node self.node node or same_node self.root node) (Execute.led Grow blossom self.root self) self }
     {
         if self.belongs_to(node) {
-            return self.led(CompactGrowState::Grow, blossom, self.root);
+            self.led(CompactGrowState::Grow, blossom, self.root)
+        } else {
+            self
         }
-        self
     }
 
     fn as_defect(self, node: NodeIndex) -> VertexRegisters
         ensures { result ≡ Execute.as_defect node self }
     {
-        let mut next = self.led(CompactGrowState::Grow, node, node);
-        next.is_defect = true;
-        next
+        VertexRegisters {
+            is_defect: true,
+            ..self.led(CompactGrowState::Grow, node, node)
+        }
     }
 
     // "AddDefectVertex: defect, Grow, node and root; an unknown vertex changes no one"
+    #[tactic(auto, using(laws::specs::Tests::tests))]
     fn add_defect_vertex(
         self,
         place: VertexIndex,
@@ -78,91 +79,99 @@ impl VertexRegisters {
     ) -> VertexRegisters
         ensures { result ≡ pick (eqb place.0 vertex.0) (Execute.as_defect node self) self }
     {
-        if place.0 == vertex.0 {
-            return self.as_defect(node);
+        if place == vertex {
+            self.as_defect(node)
+        } else {
+            self
         }
-        self
     }
 
     // "LoadDefectsExternal: vertices of that layer cease to be virtual"
+    #[tactic(auto, using(laws::specs::Tests::tests))]
     fn load_defects_external(self, time: LayerId, layer: LayerId) -> VertexRegisters
         ensures { result ≡ pick (eqb layer.0 time.0) (Execute.not_virtual self) self }
     {
-        if layer.0 == time.0 {
-            let mut next = self;
-            next.is_virtual = false;
-            return next;
+        if layer == time {
+            VertexRegisters {
+                is_virtual: false,
+                ..self
+            }
+        } else {
+            self
         }
-        self
     }
 
-    fn raise(self, length: u32) -> Executed
+    #[tactic(auto, using(laws::specs::Tests::tests), unfolding(crate::specs::Execute::moved))]
+    fn raise(self, length: u32) -> Result<VertexRegisters, MoveError>
         ensures { result ≡ Execute.moved Grow length self }
     {
-        let sum = self.grown as u64 + length as u64;
+        let sum = u64::from(self.grown) + u64::from(length);
         if sum > 67_108_863 {
-            return Executed::AboveBound;
+            return Err(MoveError::AboveBound);
         }
-        let mut next = self;
-        next.grown = sum as u32;
-        Executed::Done(next)
+        Ok(VertexRegisters {
+            grown: sum as u32,
+            ..self
+        })
     }
 
-    fn lower(self, length: u32) -> Executed
+    #[tactic(auto, using(laws::specs::Tests::tests), unfolding(crate::specs::Execute::moved))]
+    fn lower(self, length: u32) -> Result<VertexRegisters, MoveError>
         ensures { result ≡ Execute.moved Shrink length self }
     {
         if self.grown < length {
-            return Executed::BelowZero;
+            return Err(MoveError::BelowZero);
         }
-        let mut next = self;
-        next.grown = self.grown - length;
-        Executed::Done(next)
+        Ok(VertexRegisters {
+            grown: self.grown - length,
+            ..self
+        })
     }
 
     // "grown plus speed times length"
-    fn moved(self, length: u32) -> Executed
+    #[tactic(auto, using(laws::specs::Tests::tests), unfolding(crate::specs::Execute::moved))]
+    fn moved(self, length: u32) -> Result<VertexRegisters, MoveError>
         ensures { result ≡ Execute.moved self.speed length self }
     {
-        let speed = self.speed;
-        match speed {
-            CompactGrowState::Stay => Executed::Done(self),
+        match self.speed {
+            CompactGrowState::Stay => Ok(self),
             CompactGrowState::Grow => self.raise(length),
             CompactGrowState::Shrink => self.lower(length),
         }
     }
 
     // "Grow: grown plus speed times length unless stalled, or virtual with a layer"
-    fn grow(self, length: u32, still: bool) -> Executed
-        ensures { result ≡ pick still (Done self) (Execute.moved self.speed length self) }
+    #[tactic(auto, using(laws::specs::Tests::tests))]
+    fn grow(self, length: u32, still: bool) -> Result<VertexRegisters, MoveError>
+        ensures { result ≡ pick still (Ok self) (Execute.moved self.speed length self) }
     {
         if still {
-            return Executed::Done(self);
+            return Ok(self);
         }
         self.moved(length)
     }
 
     // layer is the vertex's own; still where it is stalled, or virtual with a layer
+    #[tactic(auto, using(laws::specs::Tests::tests), unfolding(crate::specs::Execute::execute))]
     pub fn execute(
         self,
         instruction: Instruction,
         vertex: VertexIndex,
         layer: LayerId,
         still: bool,
-    ) -> Executed
+    ) -> Result<VertexRegisters, MoveError>
         ensures { result ≡ Execute.execute instruction vertex.0 layer.0 still self }
     {
         match instruction {
-            Instruction::SetSpeed { node, speed } => Executed::Done(self.set_speed(node, speed)),
-            Instruction::SetBlossom { node, blossom } => Executed::Done(self.set_blossom(
-                node, blossom,
-            )),
+            Instruction::SetSpeed { node, speed } => Ok(self.set_speed(node, speed)),
+            Instruction::SetBlossom { node, blossom } => Ok(self.set_blossom(node, blossom)),
             Instruction::AddDefectVertex {
                 vertex: place,
                 node,
-            } => Executed::Done(self.add_defect_vertex(place, node, vertex)),
-            Instruction::FindObstacle => Executed::Done(self),
+            } => Ok(self.add_defect_vertex(place, node, vertex)),
+            Instruction::FindObstacle => Ok(self),
             Instruction::Grow { length } => self.grow(length, still),
-            Instruction::LoadDefectsExternal { time } => Executed::Done(self.load_defects_external(
+            Instruction::LoadDefectsExternal { time } => Ok(self.load_defects_external(
                 time, layer,
             )),
         }

@@ -3,71 +3,59 @@ use crate::index::{NodeIndex, VertexIndex};
 use crate::refusal::Refusal;
 
 // A signed length. specs/Numbers.antt gives document 01's number, 2,147,483,647 for no limit.
-#[derive(Clone, Copy)]
+#[derive(Clone, Copy, Debug, PartialEq, Eq)]
 pub enum Length {
     NoLimit,
     Ahead(u32),
     Behind(u32),
 }
 
-// A node or a touch as a finding shows it. The virtual node is absent: it is the boundary.
-#[derive(Clone, Copy)]
-pub enum Node {
-    Absent,
-    Number(NodeIndex),
-}
-
-#[derive(Clone, Copy)]
+// A node or a touch is None where it is absent: the virtual node, too, is the boundary.
+#[derive(Clone, Copy, Debug, PartialEq, Eq)]
 pub struct Side {
-    pub node: Node,
-    pub touch: Node,
+    pub node: Option<NodeIndex>,
+    pub touch: Option<NodeIndex>,
     pub vertex: VertexIndex,
 }
 
-#[derive(Clone, Copy)]
+#[derive(Clone, Copy, Debug, PartialEq, Eq)]
 pub enum Finding {
     GrowLength(Length),
     Conflict(Side, Side),
 }
 
-// What one edge reports in stage 7.
-#[derive(Clone, Copy)]
-pub enum Response {
-    Reports(Finding),
-    OddRemaining,
+// Why an edge reports nothing in stage 7: refusal 16.
+#[derive(Clone, Copy, Debug, PartialEq, Eq)]
+pub struct OddRemaining;
+
+impl From<OddRemaining> for Refusal {
+    ghost use Rattle.std.specs.Prelude.{◌≡◌};
+    ghost use Rattle.rules.specs.declared.refusal.Refusal.TheVariants as Refusals;
+
+    ghost from_gives = { λ _ refusal. refusal ≡ Refusals.OddRemaining };
+
+    fn from(_odd: OddRemaining) -> Refusal {
+        Refusal::OddRemaining
+    }
 }
 
-// What an instruction is answered.
-#[derive(Clone, Copy)]
-pub enum Answer {
-    Found(Finding),
-    Refused(Refusal),
-}
-
-// What a word is answered: it may carry a reset.
-#[derive(Clone, Copy)]
-pub enum WordAnswer {
+// What a word is answered that was carried out: it may carry a reset.
+#[derive(Clone, Copy, Debug, PartialEq, Eq)]
+pub enum Carried {
     Found(Finding),
     Reset,
-    Refused(Refusal),
 }
 
 // The sum of a search's completed growth steps, and how many these are.
-#[derive(Clone, Copy)]
+#[derive(Clone, Copy, Debug, PartialEq, Eq)]
 pub struct Tally {
     pub growth: u32,
     pub steps: u32,
 }
 
-#[derive(Clone, Copy)]
+#[derive(Clone, Copy, Debug, PartialEq, Eq)]
 pub enum Sought {
     NotBegun(Refusal),
     Found(Finding, Tally),
     Stopped(Refusal, Tally),
-}
-
-#[derive(Clone, Copy)]
-pub enum Listed {
-    Count(usize),
-    Refused(Refusal),
 }

@@ -1,10 +1,8 @@
 // The graph that an image describes, with its flags applied. An entry is one number (specs/Graph.antt says what it holds).
-ghost use Rattle.std.specs.Prelude.{◌≡◌, min};
-
 use crate::index::{EdgeIndex, VertexIndex};
 use crate::refusal::Refusal;
 
-#[derive(Clone, Copy)]
+#[derive(Clone, Copy, Debug, PartialEq, Eq)]
 pub enum OffloadingType {
     DefectMatch {
         edge: EdgeIndex,
@@ -19,8 +17,9 @@ pub enum OffloadingType {
     },
 }
 
-// The first nv, ne and nu entries are in use.
-#[derive(Clone, Copy)]
+// The first nv, ne and nu entries are in use. The counts stand beside the tables, and the weights beside the edges, since each value that a caller
+// makes is answered (specs/Graph.antt, in_use): a table that knows its length would refuse some.
+#[derive(Clone, Copy, Debug, PartialEq, Eq)]
 pub struct Graph {
     pub nv: usize,
     pub ne: usize,
@@ -31,23 +30,16 @@ pub struct Graph {
     pub units: [u32; 2048],
 }
 
-// The image's own number of units, and where the session records start.
-#[derive(Clone, Copy)]
-pub enum Opening {
-    Accepted { units: usize, start: usize },
-    Refused(Refusal),
+// An image's own number of units, and where the session records start.
+#[derive(Clone, Copy, Debug, PartialEq, Eq)]
+pub struct Accepted {
+    pub units: usize,
+    pub start: usize,
 }
 
 // A refused image comes with a blank graph.
-#[derive(Clone, Copy)]
+#[derive(Clone, Copy, Debug, PartialEq, Eq)]
 pub struct Opened {
     pub graph: Graph,
-    pub opening: Opening,
-}
-
-// A count that goes no further than its table.
-pub fn at_most(n: usize, most: usize) -> usize
-    ensures { result ≡ min n most }
-{
-    if n < most { n } else { most }
+    pub opening: Result<Accepted, Refusal>,
 }

@@ -1,16 +1,31 @@
 // Instructions, and the words that carry them.
 use crate::index::{LayerId, NodeIndex, VertexIndex};
-use crate::refusal::Refusal;
 
-#[derive(Clone, Copy)]
+#[derive(Clone, Copy, Debug, PartialEq, Eq)]
 pub enum CompactGrowState {
     Stay,
     Grow,
     Shrink,
 }
 
+// "Stay 0, Grow 1, Shrink 2 as codes"
+impl From<CompactGrowState> for u32 {
+    ghost use Rattle.std.specs.Prelude.{◌≡◌, ◌≤◌};
+    ghost use Rattle.rules.specs.Numbers.{speed_code};
+
+    ghost from_gives = { λ speed code. (code ≡ speed_code speed) × (code ≤ 2) };
+
+    fn from(speed: CompactGrowState) -> u32 {
+        match speed {
+            CompactGrowState::Stay => 0,
+            CompactGrowState::Grow => 1,
+            CompactGrowState::Shrink => 2,
+        }
+    }
+}
+
 // A length is 32 bits read as signed, so one of 2,147,483,648 or more is negative.
-#[derive(Clone, Copy)]
+#[derive(Clone, Copy, Debug, PartialEq, Eq)]
 pub enum Instruction {
     SetSpeed {
         node: NodeIndex,
@@ -34,14 +49,14 @@ pub enum Instruction {
 }
 
 // Where a number stands in a word: its lowest bit, and how many bits it has.
-#[derive(Clone, Copy)]
+#[derive(Clone, Copy, Debug, PartialEq, Eq)]
 pub struct Field {
     pub at: u32,
     pub width: u32,
 }
 
 // A kind of word: the value of its lowest bits and how many these are, the same of its extended code from bit 3 on, and its fields A and B.
-#[derive(Clone, Copy)]
+#[derive(Clone, Copy, Debug, PartialEq, Eq)]
 pub struct WordKind {
     pub low: u32,
     pub lows: u32,
@@ -52,15 +67,8 @@ pub struct WordKind {
 }
 
 // What a word asks.
-#[derive(Clone, Copy)]
-pub enum Unpacked {
+#[derive(Clone, Copy, Debug, PartialEq, Eq)]
+pub enum Asked {
     Says(Instruction),
     Reset,
-    Refused(Refusal),
-}
-
-#[derive(Clone, Copy)]
-pub enum Packed {
-    Word(u32),
-    Refused(Refusal),
 }

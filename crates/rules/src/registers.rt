@@ -1,13 +1,13 @@
 // A vertex's registers, as they are held in the hand. In a table they stand in one word (specs/Registers.antt).
-ghost use Rattle.std.specs.Prelude.{◌≡◌, ◌≤◌};
-ghost use Rattle.laws.specs.Fold;
-ghost use Rattle.rules.specs.Numbers.{speed_code};
+ghost use Rattle.std.specs.Prelude.{◌≡◌, ◌<◌};
 ghost use Rattle.rules.specs.Registers as Registers;
 
 use crate::index::NodeIndex;
 use crate::instruction::CompactGrowState;
+use crate::refusal::Refusal;
+use crate::tables::Registers;
 
-#[derive(Clone, Copy)]
+#[derive(Clone, Copy, Debug, PartialEq, Eq)]
 pub struct VertexRegisters {
     pub speed: CompactGrowState,
     pub grown: u32,
@@ -17,47 +17,43 @@ pub struct VertexRegisters {
     pub root: NodeIndex,
 }
 
-// What stage 3 makes of one vertex: its new registers, or the refusal 14 or 15.
-#[derive(Clone, Copy)]
-pub enum Executed {
-    Done(VertexRegisters),
+// Why stage 3 leaves a vertex where it is: refusals 14 and 15.
+#[derive(Clone, Copy, Debug, PartialEq, Eq)]
+pub enum MoveError {
     BelowZero,
     AboveBound,
 }
 
-// What stage 4 finds for one vertex.
-#[derive(Clone, Copy)]
-pub enum PropagatingPeer {
-    Nobody,
-    Leads { node: NodeIndex, root: NodeIndex },
+impl From<MoveError> for Refusal {
+    ghost use Rattle.std.specs.Prelude.{◌≡◌};
+    ghost use Rattle.rules.specs.Execute.{refusal_for};
+
+    ghost from_gives = { λ error refusal. refusal ≡ refusal_for error };
+
+    fn from(error: MoveError) -> Refusal {
+        match error {
+            MoveError::BelowZero => Refusal::BelowZero,
+            MoveError::AboveBound => Refusal::AboveBound,
+        }
+    }
 }
 
+// What stage 4 finds for one vertex: the node and root that its propagating peer hands on.
+#[derive(Clone, Copy, Debug, PartialEq, Eq)]
+pub struct Lead {
+    pub node: NodeIndex,
+    pub root: NodeIndex,
+}
+
+#[tactic(auto, using(laws::specs::Tests::tests), unfolding(crate::specs::Registers::speed_of, laws::specs::Choice::pick))]
 fn speed_of(code: u64) -> CompactGrowState
     ensures { result ≡ Registers.speed_of code }
 {
-    if code == 1 {
-        return CompactGrowState::Grow;
+    match code {
+        1 => CompactGrowState::Grow,
+        2 => CompactGrowState::Shrink,
+        _ => CompactGrowState::Stay,
     }
-    if code == 2 {
-        return CompactGrowState::Shrink;
-    }
-    CompactGrowState::Stay
-}
-
-fn code_of(speed: CompactGrowState) -> u64
-    ensures { (result ≡ speed_code speed) × (result ≤ 2) }
-{
-    match speed {
-        CompactGrowState::Stay => 0,
-        CompactGrowState::Grow => 1,
-        CompactGrowState::Shrink => 2,
-    }
-}
-
-fn bit(on: bool) -> u64
-    ensures { (result ≡ Fold.bit on) × (result ≤ 1) }
-{
-    if on { 1 } else { 0 }
 }
 
 fn fresh_node(is_virtual: bool) -> NodeIndex
@@ -70,6 +66,8 @@ fn fresh_node(is_virtual: bool) -> NodeIndex
     }
 }
 
+// `view` and `keep` are no `From`: it would not say that the number is a table's word.
+#[tactic(auto, unfolding(crate::specs::Registers::view))]
 pub fn view(word: u64) -> VertexRegisters
     ensures { result ≡ Registers.view word }
 {
@@ -84,7 +82,17 @@ pub fn view(word: u64) -> VertexRegisters
     }
 }
 
+// The registers of a vertex in a table.
+#[tactic(auto, unfolding(crate::specs::Registers::at, crate::specs::Registers::view))]
+pub fn at(registers: &Registers, v: u8) -> VertexRegisters
+    ensures value { result ≡ Registers.at registers.now v }
+    ensures grown { result.grown < 67_108_864 }
+{
+    view(registers[usize::from(v)])
+}
+
 impl VertexRegisters {
+    #[tactic(auto, unfolding(crate::specs::Registers::fresh))]
     pub fn fresh(is_virtual: bool) -> VertexRegisters
         ensures { result ≡ Registers.fresh is_virtual }
     {
@@ -99,15 +107,15 @@ impl VertexRegisters {
         }
     }
 
+    #[tactic(auto, unfolding(crate::specs::Registers::keep))]
     pub fn keep(self) -> u64
         ensures { result ≡ Registers.keep self }
     {
-        let speed = self.speed;
-        self.grown as u64 % 67_108_864
-            + self.node.0 as u64 * 67_108_864
-            + self.root.0 as u64 * 4_398_046_511_104
-            + code_of(speed) * 288_230_376_151_711_744
-            + bit(self.is_virtual) * 1_152_921_504_606_846_976
-            + bit(self.is_defect) * 2_305_843_009_213_693_952
+        u64::from(self.grown) % 67_108_864
+            + u64::from(self.node.0) * 67_108_864
+            + u64::from(self.root.0) * 4_398_046_511_104
+            + u64::from(u32::from(self.speed)) * 288_230_376_151_711_744
+            + u64::from(self.is_virtual) * 1_152_921_504_606_846_976
+            + u64::from(self.is_defect) * 2_305_843_009_213_693_952
     }
 }

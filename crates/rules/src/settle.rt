@@ -10,7 +10,7 @@ ghost use Rattle.rules.specs.declared.instruction.CompactGrowState.TheVariants.{
 
 use crate::index::NodeIndex;
 use crate::instruction::CompactGrowState;
-use crate::registers::{PropagatingPeer, VertexRegisters};
+use crate::registers::{Lead, VertexRegisters};
 
 const NO_NODE: NodeIndex = NodeIndex(65_535);
 
@@ -18,34 +18,23 @@ impl CompactGrowState {
     pub fn is_growing(self) -> bool
         ensures { result ≡ Registers.growing self }
     {
-        match self {
-            CompactGrowState::Stay => false,
-            CompactGrowState::Grow => true,
-            CompactGrowState::Shrink => false,
-        }
+        self == CompactGrowState::Grow
     }
 
     pub fn is_shrinking(self) -> bool
         ensures { result ≡ Registers.shrinking self }
     {
-        match self {
-            CompactGrowState::Stay => false,
-            CompactGrowState::Grow => false,
-            CompactGrowState::Shrink => true,
-        }
+        self == CompactGrowState::Shrink
     }
 }
 
 impl VertexRegisters {
     // "not virtual and has Grow after stage 3"
+    #[tactic(auto, using(laws::specs::Tests::tests), unfolding(crate::specs::Peer::is_propagating))]
     pub fn is_propagating(self) -> bool
         ensures { result ≡ is_propagating self }
     {
-        let speed = self.speed;
-        if speed.is_growing() {
-            return !self.is_virtual;
-        }
-        false
+        self.speed.is_growing() && !self.is_virtual
     }
 
     // none, none, Stay
@@ -56,87 +45,87 @@ impl VertexRegisters {
     }
 
     // "a vertex neither defect nor virtual with grown 0"
+    #[tactic(auto, using(laws::specs::Tests::tests), unfolding(crate::specs::Update::is_loose))]
     fn is_loose(self) -> bool
         ensures { result ≡ Update.is_loose self }
     {
-        if self.is_defect {
-            return false;
-        }
-        if self.is_virtual {
-            return false;
-        }
-        self.grown == 0
+        !self.is_defect && !self.is_virtual && self.grown == 0
     }
 
     // "takes the peer's node and root and Grow, or none, none, Stay"
-    fn follow(self, peer: PropagatingPeer) -> VertexRegisters
+    fn follow(self, peer: Option<Lead>) -> VertexRegisters
         ensures { result ≡ Update.follow peer self }
     {
         match peer {
-            PropagatingPeer::Nobody => self.freed(),
-            PropagatingPeer::Leads { node, root } => self.led(CompactGrowState::Grow, node, root),
+            Some(lead) => self.led(CompactGrowState::Grow, lead.node, lead.root),
+            None => self.freed(),
         }
     }
 
     // stage 5
-    pub fn update(self, peer: PropagatingPeer) -> VertexRegisters
+    #[tactic(auto, using(laws::specs::Tests::tests), unfolding(crate::specs::Update::update))]
+    pub fn update(self, peer: Option<Lead>) -> VertexRegisters
         ensures { result ≡ Update.update peer self }
     {
         if self.is_loose() {
-            return self.follow(peer);
+            self.follow(peer)
+        } else {
+            self
         }
-        self
     }
 
     // "Shrink at grown 0"
+    #[tactic(auto, using(laws::specs::Tests::tests))]
     fn is_spent(self) -> bool
         ensures { result ≡ (Registers.shrinking self.speed and eqb self.grown 0) }
     {
-        let speed = self.speed;
-        if speed.is_shrinking() {
-            return self.grown == 0;
-        }
-        false
+        self.speed.is_shrinking() && self.grown == 0
     }
 
     // "with a peer, the peer's node, root and Grow"
-    fn yield_to(self, peer: PropagatingPeer) -> VertexRegisters
+    fn yield_to(self, peer: Option<Lead>) -> VertexRegisters
         ensures { result ≡ Shadow.yield peer self }
     {
         match peer {
-            PropagatingPeer::Nobody => self,
-            PropagatingPeer::Leads { node, root } => self.led(CompactGrowState::Grow, node, root),
+            Some(lead) => self.led(CompactGrowState::Grow, lead.node, lead.root),
+            None => self,
         }
     }
 
-    fn yielded(self, peer: PropagatingPeer) -> VertexRegisters
+    #[tactic(auto, using(laws::specs::Tests::tests), unfolding(crate::specs::Shadow::yielded))]
+    fn yielded(self, peer: Option<Lead>) -> VertexRegisters
         ensures { result ≡ Shadow.yielded peer self }
     {
         if self.is_spent() {
-            return self.yield_to(peer);
+            self.yield_to(peer)
+        } else {
+            self
         }
-        self
     }
 
     // "if virtual with a layer, none, none, Stay"
-    fn unstalled(self, peer: PropagatingPeer, waiting: bool) -> VertexRegisters
+    #[tactic(auto, using(laws::specs::Tests::tests))]
+    fn unstalled(self, peer: Option<Lead>, waiting: bool) -> VertexRegisters
         ensures { result ≡ pick waiting (Execute.led Stay Registers.no_node Registers.no_node self) (Shadow.yielded peer self) }
     {
         if waiting {
-            return self.freed();
+            self.freed()
+        } else {
+            self.yielded(peer)
         }
-        self.yielded(peer)
     }
 
     // stage 6
-    pub fn shadow(self, peer: PropagatingPeer, waiting: bool, stalled: bool) -> VertexRegisters
+    #[tactic(auto, using(laws::specs::Tests::tests), unfolding(crate::specs::Shadow::shadow, laws::specs::Choice::pick))]
+    pub fn shadow(self, peer: Option<Lead>, waiting: bool, stalled: bool) -> VertexRegisters
         ensures { result ≡ Shadow.shadow peer waiting stalled self }
     {
         let seen = self.unstalled(peer, waiting);
         // "if stalled, Stay"
         if stalled {
-            return seen.with_speed(CompactGrowState::Stay);
+            seen.with_speed(CompactGrowState::Stay)
+        } else {
+            seen
         }
-        seen
     }
 }

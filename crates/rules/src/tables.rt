@@ -1,4 +1,6 @@
 // The tables that calls are lent.
+ghost use Rattle.std.specs.Prelude.{◌≡◌, false, replicate};
+
 // The registers of each vertex, or its shadow, in one word (specs/Registers.antt).
 pub type Registers = [u64; 256];
 
@@ -10,3 +12,10 @@ pub type Stalls = [bool; 1024];
 
 // A flag for each vertex.
 pub type VertexFlags = [bool; 256];
+
+// No flag is raised.
+pub fn no_flags<const N: usize>() -> [bool; N]
+    ensures { result ≡ replicate N false }
+{
+    [false; N]
+}

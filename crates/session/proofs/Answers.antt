@@ -10,15 +10,13 @@ use Rattle.rules.specs.Run.{of_list, call}
 use Rattle.rules.specs.Listing.{line, reply_text, record_call}
 use Rattle.rules.specs.declared.graph.Graph.{Graph}
 use Rattle.rules.specs.declared.state.State.{State}
-use Rattle.rules.specs.declared.finding.Listed.{Listed}
-use Rattle.rules.specs.declared.finding.Listed.TheVariants.{Count, Refused}
+use Rattle.rules.specs.Types.{Listed}
+use Rattle.std.specs.Prelude.{Err, Ok}
 use Rattle.laws.specs.Placed.{Wrote}
 use Rattle.records.specs.Chunks.{Acted}
 use Rattle.records.specs.Session.{acted_by}
 use Rattle.records.specs.Answered.{Answer, answer_of, answered_by, answer, is_unknown}
 use Rattle.records.specs.declared.Answered.{Answered}
-use Rattle.comb_cycle.specs.Cycled.{state_of}
-use Rattle.answer.specs.Left.{maximum_left, answer_as}
 use Rattle.listing.specs.Answers.{answer_text}
 use Rattle.listing.specs.Lines.{longest_pairs, line_end, line_in, end_with_room, in_with_room}
 use Rattle.listing.specs.Pairs.{pairs_text, pairs_told}
@@ -30,8 +28,8 @@ module _ (g : Graph) (s : State) where
   pairs_are : (n : Listed) (es : List ℕ) → reply_text (of_list n es) ≡ pairs_text s.stalled
       → record { text = line (reply_text (of_list n es)); state = s; ended = false } ≡ told_of (record { state = s; answered = answer_of (of_list n es) })
   unfolding answer_text
-  pairs_are (Count n) es e = ap (λ (t : List ℕ). record { text = line t; state = s; ended = false }) e
-  pairs_are (Refused r) es e = ap (λ (t : List ℕ). record { text = line t; state = s; ended = false }) e
+  pairs_are (Ok n) es e = ap (λ (t : List ℕ). record { text = line t; state = s; ended = false }) e
+  pairs_are (Err r) es e = ap (λ (t : List ℕ). record { text = line t; state = s; ended = false }) e
 
   -- where the decoder has a flag for each edge
   pub acted_told : (kind value : ℕ) → length s.stalled ≤ 1_024 → acted_by g s (record_call kind value) ≡ told_of (answer g s kind value)
@@ -49,19 +47,18 @@ pub record Ran (one : Acted State) (t : State) (ended : Bool) (at : ℕ) (before
   pub wrote : Wrote one.text at before next after
 
 -- where there is room for the longest line of all, a record's line is written
-module _ (g : Graph) (s : State) (flags : length s.stalled ≤ 1_024) (kind value : ℕ) (rs ws : List ℕ) (stalled : List Bool) (m : ℕ) (a : Answered)
-    (is : answer_as rs ws stalled m a ≡ answer g s kind value) where
+module _ (g : Graph) (s : State) (flags : length s.stalled ≤ 1_024) (kind value : ℕ) (t : State) (a : Answered)
+    (is : record { state = t; answered = a } ≡ answer g s kind value) where
   abbrev text : List ℕ
-  text = line (answer_text stalled a)
+  text = line (answer_text t.stalled a)
 
-  ran_told : (t : State) (e : Bool) (at next : ℕ) (x y : List ℕ) → t ≡ state_of rs ws stalled (maximum_left m a) → e ≡ is_unknown a → Wrote text at x next y
-      → Ran (told_of (answer_as rs ws stalled m a)) t e at x next y
-  ran_told t e at next x y p q w = record { state = p; end = q; wrote = w }
+  ran_told : (e : Bool) (at next : ℕ) (x y : List ℕ) → e ≡ is_unknown a → Wrote text at x next y → Ran (told_of (record { state = t; answered = a })) t e at x next y
+  ran_told e at next x y q w = record { state = refl; end = q; wrote = w }
 
-  pub ran_record : (t : State) (e : Bool) (at next : ℕ) (x y : List ℕ) → at + longest_pairs ≤ length x → t ≡ state_of rs ws stalled (maximum_left m a)
+  pub ran_record : (e : Bool) (at next : ℕ) (x y : List ℕ) → at + longest_pairs ≤ length x
       → e ≡ is_unknown a → next ≡ line_end longest_pairs at text x → y ≡ line_in longest_pairs at text x → next ≤ at + longest_pairs
       → Ran (acted_by g s (record_call kind value)) t e at x next y
-  ran_record t e at next x y room p q n o l =
+  ran_record e at next x y room q n o l =
       rw (acted_told g s kind value flags, ← is)
-      (ran_told t e at next x y p q
+      (ran_told e at next x y q
       (record { end = n ∙ end_with_room longest_pairs at text x room; inside = omega arith; bytes = o ∙ in_with_room longest_pairs at text x room }))

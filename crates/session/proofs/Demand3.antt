@@ -13,8 +13,8 @@ use Rattle.rules.specs.Run.{Call, call, run, replies}
 use Rattle.rules.specs.Run as Run
 use Rattle.rules.specs.Search.{search_to, search_on}
 use Rattle.rules.specs.Listing.{lines, first_line, listing}
+use Rattle.std.proofs.Common.{Ok}
 use Rattle.rules.specs.declared.graph.Graph.{Graph}
-use Rattle.rules.specs.declared.graph.Opening.TheVariants.{Accepted}
 use Rattle.rules.specs.declared.state.State.{State}
 use Rattle.rules.specs.declared.state.Searched.{Searched}
 use Rattle.promises.specs.Ledger.{total, ledger}
@@ -77,7 +77,7 @@ module _ (image : List ℕ) where
       subst (λ (x : Searched). Reports graph s Run.seek_on (Run.found x.answer x.state.maximum)) (sym e) (call_reports graph s Run.seek_on)
 
   -- .. and the whole listing of an accepted image
-  pub listing_is : (units start : ℕ) → (Image.opened image).opening ≡ Accepted units start → let cs = calls_in (drop start image) in
+  pub listing_is : (units start : ℕ) → (Image.opened image).opening ≡ Ok (record { units = units; start = start }) → let cs = calls_in (drop start image) in
       let rs = replies graph (first_state graph) cs in
       (listing image ≡ first_line (Image.vertex_count image) (Image.edge_count image) units ++ (lines rs ++ end_of (drop start image)))
       × AllReport graph (first_state graph) cs rs

@@ -1,22 +1,13 @@
 -- At the end of input: no bytes left and no line, or the line of a record that was cut short, where it finds room.
-use Prim.Native.Nat.{ℕ, ◌+◌, ◌≤◌, ◌<◌}
-use mathlib.Core.Path.{◌≡◌, refl, sym, ap, ◌∙◌}
-use mathlib.Core.Bool.{Bool, true, false}
-use mathlib.Core.List.{List, []}
-use native.Mathlib.Nat.{zero-add}
-use native.Mathlib.Omega.{arith}
-use borrow.Author.Tests.{eq-eqb, ne_eqb, le-leb, lt-ltb, le-ltb}
-use lib.Dec.{leb}
-use lib.ListN.{length}
+use Rattle.std.specs.Prelude.{ℕ, ◌+◌, ◌≡◌, Bool, true, false, List, [], leb, length, Some, None}
+use Rattle.std.proofs.Common.{refl, sym, ap, ◌∙◌, zero-add, arith, eq-eqb, ne_eqb, le-leb}
 use Rattle.laws.specs.Choice.{pick}
 use Rattle.rules.specs.Listing.{digits, decimal, line, refusal_text}
 use Rattle.rules.specs.declared.refusal.Refusal.TheVariants.{SessionRecord}
 use Rattle.laws.specs.Placed.{placed_none}
 use Rattle.records.specs.Chunks.{end_text}
-use Rattle.records.specs.declared.Stop.TheVariants.{WantsBytes, WantsRoom, Ended}
 use Rattle.listing.specs.Lines.{record_line, line_end, line_in}
-use Rattle.session.specs.Chunk.{stop_of, last_fits, last_of, last_in}
-use Rattle.session.specs.declared.Last.TheVariants as L
+use Rattle.session.specs.Chunk.{last_fits, last_of, last_in}
 
 abbrev text : List ℕ
 text = line (refusal_text SessionRecord)
@@ -34,7 +25,7 @@ module _ (left : ℕ) (x : List ℕ) where
   unfolding last_fits
   none_fits e = rw (none_left e) (le-leb 0 (length x) (omega arith))
 
-  pub no_line : left ≡ 0 → L.Wrote 0 ≡ last_of left x
+  pub no_line : left ≡ 0 → Some 0 ≡ last_of left x
   unfolding last_of pick
   no_line e = rw (none_fits e, none_left e)
 
@@ -51,21 +42,21 @@ module _ (left : ℕ) (x : List ℕ) where
   some_fits n = ap (λ (t : List ℕ). leb (length t) (length x)) (some_left n) ∙ ap (λ (k : ℕ). leb k (length x)) five_bytes
 
   module _ (n : left ≡ 0 → ⊥) (r : ℕ) where
-    with_room : (fits : Bool) → r ≡ pick fits (0 + length text) 0 → (r ≡ 0 → ⊥) → L.Wrote r ≡ pick fits (L.Wrote (length (end_text left))) L.WantsRoom
+    with_room : (fits : Bool) → r ≡ pick fits (0 + length text) 0 → (r ≡ 0 → ⊥) → Some r ≡ pick fits (Some (length (end_text left))) None
     unfolding pick
-    with_room true e m = ap L.Wrote (e ∙ zero-add (length text) ∙ ap length (sym (some_left n)))
+    with_room true e m = ap Some (e ∙ zero-add (length text) ∙ ap length (sym (some_left n)))
     with_room false e m = absurd (m e)
 
-    without_room : (fits : Bool) → r ≡ pick fits (0 + length text) 0 → r ≡ 0 → L.WantsRoom ≡ pick fits (L.Wrote (length (end_text left))) L.WantsRoom
+    without_room : (fits : Bool) → r ≡ pick fits (0 + length text) 0 → r ≡ 0 → None ≡ pick fits (Some (length (end_text left))) None
     unfolding pick
     without_room true e m = absurd (omega (arith, five_bytes, e, m))
     without_room false e m = refl
 
-    pub last_line : r ≡ line_end record_line 0 text x → (r ≡ 0 → ⊥) → L.Wrote r ≡ last_of left x
+    pub last_line : r ≡ line_end record_line 0 text x → (r ≡ 0 → ⊥) → Some r ≡ last_of left x
     unfolding line_end last_of
     last_line e m = rw (some_fits n) (with_room (leb (0 + record_line) (length x)) e m)
 
-    pub no_room : r ≡ line_end record_line 0 text x → r ≡ 0 → L.WantsRoom ≡ last_of left x
+    pub no_room : r ≡ line_end record_line 0 text x → r ≡ 0 → None ≡ last_of left x
     unfolding line_end last_of
     no_room e m = rw (some_fits n) (without_room (leb (0 + record_line) (length x)) e m)
 
@@ -74,20 +65,3 @@ module _ (left : ℕ) (x : List ℕ) where
   last_bytes n y e = rw (some_fits n, some_left n) e
 
 pub ruleset lasts = (no_line, no_bytes, last_line, no_room, last_bytes)
-
--- ---- why a chunk stopped, by the code's tests
-
-module _ (ended : Bool) (left : ℕ) where
-  pub at_end : ended ≡ true → Ended ≡ stop_of ended left
-  unfolding stop_of pick
-  at_end e = rw e
-
-  pub at_cut : ended ≡ false → left < 5 → WantsBytes ≡ stop_of ended left
-  unfolding stop_of pick
-  at_cut e l = rw (e, lt-ltb left 5 l)
-
-  pub at_full : ended ≡ false → 5 ≤ left → WantsRoom ≡ stop_of ended left
-  unfolding stop_of pick
-  at_full e l = rw (e, le-ltb left 5 l)
-
-pub ruleset stops = (at_end, at_cut, at_full)

@@ -1,17 +1,13 @@
 -- What the work on a chunk of session records answers, and the work at the end of the input.
-use Rattle.std.specs.Prelude.{ℕ, Bool, not, List, leb, ltb, length}
-use Rattle.laws.specs.Choice.{◌and◌, pick}
+use Rattle.std.specs.Prelude.{ℕ, Bool, List, leb, length, Option, Some, None}
+use Rattle.laws.specs.Choice.{pick}
 use Rattle.laws.specs.Placed.{placed}
 use Rattle.rules.specs.declared.graph.Graph.{Graph}
 use Rattle.rules.specs.declared.state.State.{State}
 use Rattle.records.specs.Chunks
 use Rattle.records.specs.Session.{behind, acted}
-use Rattle.records.specs.declared.Stop.{Stop}
-use Rattle.records.specs.declared.Stop.TheVariants.{WantsBytes, WantsRoom, Ended}
 use Rattle.listing.specs.Lines.{longest_pairs}
 use Rattle.session.specs.declared.Done.{Done}
-use Rattle.session.specs.declared.Last.{Last}
-use Rattle.session.specs.declared.Last.TheVariants as L
 
 -- as many of the records as are whole and find room for the longest line, which is a pair list
 abbrev pub chunk : Graph → State → ℕ → List ℕ → Chunks.Chunk State
@@ -25,22 +21,14 @@ Replay g s held pieces text = Chunks.Replay (acted g) behind longest_pairs s hel
 abbrev pub done_of : Chunks.Chunk State → Done
 done_of c = record { state = c.state; used = c.used; written = length c.text; stop = c.stop }
 
--- whether another record is run, where so many bytes are left and there is so much room
-unfoldable pub goes_on : Bool → ℕ → ℕ → Bool
-goes_on ended left room = not ended and leb 5 left and leb longest_pairs room
-
--- why no other is: a record "of another kind; replay ends", one "cut short" so far, or too little room for the longest line
-unfoldable pub stop_of : Bool → ℕ → Stop
-stop_of ended left = pick ended Ended (pick (ltb left 5) WantsBytes WantsRoom)
-
 -- ---- the end of the input, where so many bytes are left
 
 -- whether the last line finds room: its own length is enough
 unfoldable pub last_fits : ℕ → List ℕ → Bool
 last_fits left out = leb (length (Chunks.end_text left)) (length out)
 
-unfoldable pub last_of : ℕ → List ℕ → Last
-last_of left out = pick (last_fits left out) (L.Wrote (length (Chunks.end_text left))) L.WantsRoom
+unfoldable pub last_of : ℕ → List ℕ → Option ℕ
+last_of left out = pick (last_fits left out) (Some (length (Chunks.end_text left))) None
 
 unfoldable pub last_in : ℕ → List ℕ → List ℕ
 last_in left out = pick (last_fits left out) (placed 0 (Chunks.end_text left) out) out

@@ -3,21 +3,20 @@
 #![tactic(auto)]
 
 ghost use Rattle.std.specs.Prelude.{◌≡◌, ◌≤◌, length};
-ghost use Rattle.board.specs.Board.{graph_on, Laid};
+ghost use Rattle.board.specs.Board.{graph_on};
 ghost use Rattle.laws.specs.Placed.{placed};
-ghost use Rattle.records.specs.Answered.{is_unknown};
-ghost use Rattle.session.specs.Chunk.{chunk, done_of, goes_on, stop_of, last_of, last_in};
+ghost use Rattle.session.specs.Chunk.{chunk, done_of, last_of, last_in};
 
-use answer::{answer_record, maximum_left};
+use answer::answer_record;
 use board::Board;
 use lay::lay;
 use listing::{answer_line, record_line};
-use records::{Answered, Stop, value_at};
+use records::{Answered, Stop};
 use rules::graph::Graph;
 use rules::state::State;
 
 // The state that is left, how many bytes were used and written, and why no more.
-#[derive(Clone, Copy)]
+#[derive(Clone, Copy, Debug, PartialEq, Eq)]
 pub struct Done {
     pub state: State,
     pub used: usize,
@@ -25,88 +24,37 @@ pub struct Done {
     pub stop: Stop,
 }
 
-// What the end of the input wrote, or that its line finds no room.
-#[derive(Clone, Copy)]
-pub enum Last {
-    Wrote(usize),
-    WantsRoom,
-}
-
 // The longest line of all, as listing's specs/Lines.antt has it.
 const LONGEST_PAIRS: usize = 5122;
 
-// A whole record is left, and room for its line.
-fn goes_on(ended: bool, left: usize, room: usize) -> bool
-    ensures { result ≡ goes_on ended left room }
-{
-    !ended & (5 <= left) & (LONGEST_PAIRS <= room)
-}
-
-fn stop_of(ended: bool, left: usize) -> Stop
-    ensures { result ≡ stop_of ended left }
-{
-    if ended {
-        return Stop::Ended;
-    }
-    if left < 5 {
-        return Stop::WantsBytes;
-    }
-    Stop::WantsRoom
-}
-
-// A record of another kind ends the replay.
-fn is_unknown(answered: Answered) -> bool
-    ensures { result ≡ is_unknown answered }
-{
-    match answered {
-        Answered::Word(_) => false,
-        Answered::Search(_, _) => false,
-        Answered::Pairs => false,
-        Answered::Unknown => true,
-    }
-}
-
-// The records on lent tables.
-fn run_records<'a>(board: &'a Board, state: State, bytes: &[u8], out: &mut [u8]) -> Done
-    requires { Laid board.now }
-    ensures value { result ≡ done_of (chunk (graph_on board.now) state (length out.old) bytes.now) }
-    ensures out_after { out.new ≡ placed 0 (chunk (graph_on board.now) state (length out.old) bytes.now).text out.old }
+// The records on a board.
+fn run_records(board: &Board, mut state: State, bytes: &[u8], out: &mut [u8]) -> Done
+    ensures value { result ≡ done_of (chunk (graph_on board.now.table) state (length out.old) bytes.now) }
+    ensures out_after { out.new ≡ placed 0 (chunk (graph_on board.now.table) state (length out.old) bytes.now).text out.old }
     ensures used_in_bounds { (result.used ≤ length bytes.now) × (result.written ≤ length out.old) }
 {
-    let mut registers = state.registers;
-    let mut weights = state.weights;
-    let mut stalled = state.stalled;
-    let mut maximum = state.maximum;
-    let mut used: usize = 0;
-    let mut written: usize = 0;
-    let mut ended = false;
-    while goes_on(ended, bytes.len() - used, out.len() - written) {
-        let kind = bytes[used];
-        let value = value_at(bytes, used + 1);
+    let (records, _) = bytes.as_chunks::<5>();
+    let mut used = 0;
+    let mut written = 0;
+    let mut stop = Stop::WantsBytes;
+    for &[kind, a, b, c, d] in records {
+        if out.len() - written < LONGEST_PAIRS {
+            stop = Stop::WantsRoom;
+            break;
+        }
+        let answered = answer_record(board, &mut state, kind, u32::from_le_bytes([a, b, c, d]));
         used += 5;
-        let answered = answer_record(
-            board,
-            &mut weights,
-            &mut registers,
-            &mut stalled,
-            maximum,
-            kind,
-            value,
-        );
-        maximum = maximum_left(maximum, answered);
-        written = answer_line(out, written, answered, &stalled);
-        ended = is_unknown(answered);
+        written = answer_line(out, written, answered, &state.stalled);
+        if matches!(answered, Answered::Unknown) {
+            stop = Stop::Ended;
+            break;
+        }
     }
     Done {
-        state: State {
-            registers,
-            weights,
-            stalled,
-            maximum,
-        },
+        state,
         used,
         written,
-        stop: stop_of(ended, bytes.len() - used),
+        stop,
     }
 }
 
@@ -120,17 +68,18 @@ pub fn run_chunk(graph: Graph, state: State, bytes: &[u8], out: &mut [u8]) -> Do
     run_records(&board, state, bytes, out)
 }
 
-// "18: session record cut short": the last line, where bytes are left when the input ends. Without room for it nothing is written.
-pub fn end_of_input(left: usize, out: &mut [u8]) -> Last
+// "18: session record cut short": the last line, where bytes are left when the input ends; how much it wrote. None: it finds no room, and nothing
+// is written.
+#[tactic(auto, using(crate::proofs::Ends::lasts))]
+pub fn end_of_input(left: usize, out: &mut [u8]) -> Option<usize>
     ensures value { result ≡ last_of left out.old }
     ensures out_after { out.new ≡ last_in left out.old }
 {
     if left == 0 {
-        return Last::Wrote(0);
+        return Some(0);
     }
-    let end = record_line(out, 0);
-    if end == 0 {
-        return Last::WantsRoom;
+    match record_line(out, 0) {
+        0 => None,
+        end => Some(end),
     }
-    Last::Wrote(end)
 }

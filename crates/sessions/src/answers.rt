@@ -1,125 +1,83 @@
 // A session's listing, from the decoder's calls by value.
+use crate::output::Output;
 use crate::registers::show_registers;
-use crate::text::{put_byte, put_number, ready};
-use listing::answer_line;
-use records::{Answered, value_at};
-use rules::finding::Listed;
-use rules::graph::{Graph, Opening, at_most};
+use listing::{answer_line, bad_line, first_line, record_line};
+use records::Answered;
+use rules::graph::{Accepted, Graph};
 use rules::state::{Searched, State};
+use std::fmt::Write;
 use text_out::count;
 
-// The state after a record, and where the output goes on.
-#[derive(Clone, Copy)]
-struct Shown {
-    state: State,
-    at: usize,
+fn show_answer(out: &mut Output<impl Print>, answered: Answered, state: &State) {
+    out.line(|bytes, at| answer_line(bytes, at, answered, &state.stalled));
 }
 
-fn show_word(graph: Graph, state: State, word: u32, out: &mut [u8], at: usize) -> Shown {
+fn show_word(out: &mut Output<impl Print>, graph: Graph, state: State, word: u32) -> State {
     let cycle = comb::execute_word(graph, state, word);
-    let answer = cycle.answer;
-    let state = cycle.state;
-    let stalled = state.stalled;
-    let at = answer_line(out, at, Answered::Word(answer), &stalled);
-    Shown { state, at }
+    show_answer(out, Answered::Word(cycle.answer), &cycle.state);
+    cycle.state
 }
 
-fn show_search(searched: Searched, out: &mut [u8], at: usize) -> Shown {
-    let answer = searched.answer;
-    let state = searched.state;
-    let stalled = state.stalled;
-    let at = answer_line(out, at, Answered::Search(answer, state.maximum), &stalled);
-    Shown { state, at }
+fn show_search(out: &mut Output<impl Print>, searched: Searched) -> State {
+    let answered = Answered::Search(searched.answer, searched.state.maximum);
+    show_answer(out, answered, &searched.state);
+    searched.state
 }
 
-fn put_edge(out: &mut [u8], at: usize, edge: u16) -> usize {
-    put_number(out, at, edge as u64)
-}
-
-fn put_edges(out: &mut [u8], at: usize, edges: &[u16], n: usize) -> usize {
-    let last = at_most(n, edges.len());
-    let mut next = at;
-    for edge in &edges[0..last] {
-        next = put_edge(out, next, *edge);
-    }
-    next
-}
-
-fn show_pairs(state: State, out: &mut [u8], at: usize) -> usize {
+fn show_pairs(out: &mut Output<impl Print>, state: State) {
     let mut edges = [0u16; 1024];
-    let Listed::Count(n) = comb::list_pairs(state, &mut edges) else {
-        return at;
+    let Ok(n) = comb::list_pairs(state, &mut edges) else {
+        return;
     };
-    let at = put_byte(out, at, b'p');
-    let at = put_edges(out, at, &edges, n);
-    put_byte(out, at, b'\n')
+    let _ = out.write_str("p");
+    for edge in edges.iter().take(n) {
+        let _ = write!(out, " {edge}");
+    }
+    let _ = out.write_str("\n");
 }
 
 fn show_record(
+    out: &mut Output<impl Print>,
     graph: Graph,
     state: State,
     kind: u8,
     value: u32,
-    out: &mut [u8],
-    at: usize,
-) -> Shown {
+) -> State {
     match kind {
-        0 => show_word(graph, state, value, out, at),
-        1 => show_search(comb::search_to(graph, state, value), out, at),
-        2 => show_search(comb::search_on(graph, state), out, at),
+        0 => show_word(out, graph, state, value),
+        1 => show_search(out, comb::search_to(graph, state, value)),
+        2 => show_search(out, comb::search_on(graph, state)),
         _ => {
-            let at = show_pairs(state, out, at);
-            Shown { state, at }
+            show_pairs(out, state);
+            state
         }
     }
 }
 
-fn show_state(rt: &impl Print, nv: usize, state: State, out: &mut [u8], at: usize) -> usize {
-    let registers = state.registers;
-    show_registers(rt, out, at, &registers, nv)
-}
-
-fn show_records(
-    rt: &impl Print,
-    graph: Graph,
-    first: State,
-    session: &[u8],
-    start: usize,
-    out: &mut [u8],
-    at: usize,
-) -> usize {
+fn show_records(out: &mut Output<impl Print>, graph: Graph, first: State, records: &[u8]) {
     let mut state = first;
-    let mut next = at;
-    let mut from = start;
-    while from < session.len() {
-        next = ready(rt, out, next);
-        if session.len() - from < 5 {
-            return listing::record_line(out, next);
-        }
-        let kind = session[from];
-        if 3 < kind {
-            return listing::record_line(out, next);
-        }
-        let value = value_at(session, from + 1);
-        from += 5;
-        let shown = show_record(graph, state, kind, value, out, next);
-        state = shown.state;
-        next = show_state(rt, graph.nv, state, out, shown.at);
+    for record in records.chunks(5) {
+        // A record that is cut short or of another kind is the last.
+        let [kind @ 0..=3, a, b, c, d] = *record else {
+            out.line(record_line);
+            return;
+        };
+        state = show_record(out, graph, state, kind, u32::from_le_bytes([a, b, c, d]));
+        show_registers(out, graph.nv, &state);
     }
-    next
 }
 
-pub(crate) fn show_session(rt: &impl Print, session: &[u8], out: &mut [u8], at: usize) -> usize {
-    let at = ready(rt, out, at);
+pub(crate) fn show_session(out: &mut Output<impl Print>, session: &[u8]) {
     let decoder = comb::open(session);
-    let opening = decoder.opening;
-    match opening {
-        Opening::Accepted { units, start } => {
-            let graph = decoder.graph;
-            let state = decoder.state;
-            let at = listing::first_line(out, at, count(graph.nv), count(graph.ne), count(units));
-            show_records(rt, graph, state, session, start, out, at)
+    let graph = decoder.graph;
+    match decoder.opening {
+        Ok(Accepted { units, start }) => {
+            out.line(|bytes, at| {
+                first_line(bytes, at, count(graph.nv), count(graph.ne), count(units))
+            });
+            let records = &session[start.min(session.len())..];
+            show_records(out, graph, decoder.state, records);
         }
-        Opening::Refused(why) => listing::bad_line(out, at, why),
+        Err(why) => out.line(|bytes, at| bad_line(bytes, at, why)),
     }
 }

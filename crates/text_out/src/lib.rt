@@ -12,30 +12,21 @@ use listing::{bad_line, first_line};
 use records::Stop;
 use rules::graph::Graph;
 use rules::refusal::Refusal;
-use session::{Last, end_of_input};
+use session::end_of_input;
 
-// Writes the first n bytes, and answers whether all of them were written.
+// Writes the first n bytes, and answers whether all of them were written. It takes no slice of n bytes: it promises what it answers where there
+// are fewer.
 pub fn put(rt: &impl Print, text: &[u8], n: usize) -> bool
     ensures { length text.now < n → result ≡ false }
 {
-    if text.len() < n {
-        return false;
-    }
-    rt.write_all(&text[0..n]).is_ok()
-}
-
-// An output buffer. A replay's input buffer is as long.
-pub fn large_buffer() -> [u8; 65536]
-    ensures { 65_536 ≡ length result }
-{
-    [0u8; 65536]
+    text.get(..n).is_some_and(|text| rt.write_all(text).is_ok())
 }
 
 // A number of vertices, edges or units: an image has at most 1,024 of each.
 pub fn count(n: usize) -> u32
     ensures { result ≡ min n 1_024 }
 {
-    if n < 1_024 { n as u32 } else { 1_024 }
+    n.min(1_024) as u32
 }
 
 pub fn show_refusal(rt: &impl Print, out: &mut [u8], why: Refusal) -> bool
@@ -65,8 +56,8 @@ pub fn show_end(rt: &(impl Print + Eprint), out: &mut [u8], left: usize) -> bool
     ensures { out.new ≡ last_in left out.old }
 {
     match end_of_input(left, out) {
-        Last::Wrote(n) => put(rt, out, n),
-        Last::WantsRoom => no_room(rt),
+        Some(n) => put(rt, out, n),
+        None => no_room(rt),
     }
 }
 
@@ -77,11 +68,7 @@ pub fn gets_on(rt: &impl Eprint, stop: Stop, used: usize) -> bool
     match stop {
         Stop::Ended => false,
         Stop::WantsBytes => true,
-        Stop::WantsRoom => {
-            if used == 0 {
-                return no_room(rt);
-            }
-            true
-        }
+        Stop::WantsRoom if used == 0 => no_room(rt),
+        Stop::WantsRoom => true,
     }
 }

@@ -1,17 +1,14 @@
 -- Each table is the definition's.
-use Rattle.image.proofs.Opens.{opens}
-use Rattle.image.proofs.UnitSteps.{few_edges}
-use Rattle.std.proofs.Common.{rules}
+use Rattle.std.proofs.Common.{rules, arith}
+use Rattle.rules.specs.Image.{graph_of, vertex_word, edge_word, edge_weight}
+use Rattle.image.proofs.Tables.{painted}
 use Rattle.image.proofs.graph_of.Goals as goal
 
-pub vertex_table-requires : goal.vertex_table-requires
-vertex_table-requires c = search (rules, opens)
-
-pub edge_table-requires : goal.edge_table-requires
-edge_table-requires c = search (rules, few_edges, opens)
-
-pub weight_table-requires : goal.weight_table-requires
-weight_table-requires c = search (rules, few_edges)
-
 pub returns : goal.returns
-returns c = search (rules, opens)
+unfolding graph_of
+returns c =
+    let bs = c.args.bytes.now in
+    let vertices = painted (vertex_word bs) _ 256 c.table.result (search rules) (λ k l. let h = c.table.ensures.each k l in search rules) c.table.ensures.rest in
+    let edges = painted (edge_word bs) _ 1_024 c.table-2.result (search rules) (λ k l. let h = c.table-2.ensures.each k l in search rules) c.table-2.ensures.rest in
+    let weights = painted (edge_weight bs) _ 1_024 c.table-3.result (search rules) (λ k l. let h = c.table-3.ensures.each k l in search rules) c.table-3.ensures.rest in
+    grind arith

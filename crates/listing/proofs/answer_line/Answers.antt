@@ -1,10 +1,14 @@
--- Without room nothing is written; with room the text and the line's end are.
-use Rattle.listing.proofs.Whole.{whole}
-use Rattle.std.proofs.Common.{rules}
+-- With room the text and the line's end are written.
+use Rattle.std.proofs.Common.{rules, lit<}
+use Rattle.listing.proofs.Puts.{◌then◌}
+use Rattle.listing.proofs.Whole.{new_end, new_buffer}
 use Rattle.listing.proofs.answer_line.Goals as goal
 
-pub returns-then-room-lt-LONGEST_PAIRS : goal.returns-then-room-lt-LONGEST_PAIRS
-returns-then-room-lt-LONGEST_PAIRS c = record { value = search (rules, whole); out_after = search (rules, whole); upper_bound = search rules }
+pub returns-clause-value : goal.returns-clause-value
+returns-clause-value c =
+    new_end _ _ _ _ _ c.saturating_sub-room.ensures (c.put_answer.ensures then c.put_byte.ensures).wrote c.if-room-lt-LONGEST_PAIRS.false (lit< tt)
 
-pub returns : goal.returns
-returns c = record { value = search (rules, whole); out_after = search (rules, whole); upper_bound = search rules }
+pub returns-clause-out_after : goal.returns-clause-out_after
+returns-clause-out_after c =
+    let h = new_buffer _ _ _ _ _ c.saturating_sub-room.ensures (c.put_answer.ensures then c.put_byte.ensures).wrote c.if-room-lt-LONGEST_PAIRS.false (lit< tt) in
+    search (rules, h)

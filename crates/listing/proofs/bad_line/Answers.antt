@@ -1,10 +1,15 @@
--- Without room nothing is written; with room the text and the line's end are.
-use Rattle.listing.proofs.Whole.{whole}
-use Rattle.std.proofs.Common.{rules}
+-- With room the text and the line's end are written.
+use Rattle.std.proofs.Common.{rules, lit<}
+use Rattle.listing.proofs.Puts.{◌then◌}
+use Rattle.listing.proofs.Whole.{new_end, new_buffer}
 use Rattle.listing.proofs.bad_line.Goals as goal
 
-pub returns-then-room-lt-LONGEST : goal.returns-then-room-lt-LONGEST
-returns-then-room-lt-LONGEST c = record { value = search (rules, whole); out_after = search (rules, whole); upper_bound = search rules }
+pub returns-clause-value : goal.returns-clause-value
+returns-clause-value c =
+    rw (← c.from.ensures, ← c.from-2.ensures)
+    (new_end _ _ _ _ _ c.saturating_sub-room.ensures (c.put_text.ensures then c.put_number.ensures then c.put_byte.ensures).wrote c.if-room-lt-LONGEST.false (lit< tt))
 
-pub returns : goal.returns
-returns c = record { value = search (rules, whole); out_after = search (rules, whole); upper_bound = search rules }
+pub returns-clause-out_after : goal.returns-clause-out_after
+returns-clause-out_after c =
+    let h = new_buffer _ _ _ _ _ c.saturating_sub-room.ensures (c.put_text.ensures then c.put_number.ensures then c.put_byte.ensures).wrote c.if-room-lt-LONGEST.false (lit< tt) in
+    rw (← c.from.ensures, ← c.from-2.ensures) (search (rules, h))

@@ -1,10 +1,16 @@
--- Without room nothing is written; with room the text and the line's end are.
-use Rattle.listing.proofs.Whole.{whole}
-use Rattle.std.proofs.Common.{rules}
+-- With room the head and the line's end are written.
+use Rattle.std.proofs.Common.{rules, lit<}
+use Rattle.listing.proofs.Puts.{◌then◌}
+use Rattle.listing.proofs.Whole.{new_end, new_buffer, head_is}
 use Rattle.listing.proofs.first_line.Goals as goal
 
-pub returns-then-room-lt-LONGEST : goal.returns-then-room-lt-LONGEST
-returns-then-room-lt-LONGEST c = record { value = search (rules, whole); out_after = search (rules, whole); upper_bound = search rules }
+pub returns-clause-value : goal.returns-clause-value
+returns-clause-value c =
+    let head = rw head_is at (c.put_text.ensures then c.put_numbers.ensures) in
+    new_end _ _ _ _ _ c.saturating_sub-room.ensures (head then c.put_byte.ensures).wrote c.if-room-lt-LONGEST.false (lit< tt)
 
-pub returns : goal.returns
-returns c = record { value = search (rules, whole); out_after = search (rules, whole); upper_bound = search rules }
+pub returns-clause-out_after : goal.returns-clause-out_after
+returns-clause-out_after c =
+    let head = rw head_is at (c.put_text.ensures then c.put_numbers.ensures) in
+    let h = new_buffer _ _ _ _ _ c.saturating_sub-room.ensures (head then c.put_byte.ensures).wrote c.if-room-lt-LONGEST.false (lit< tt) in
+    search (rules, h)

@@ -1,10 +1,12 @@
--- Without room nothing is written; with room the line is, whose five bytes are `r 18` and its end.
-use Rattle.listing.proofs.Whole.{whole, recorded}
-use Rattle.std.proofs.Common.{rules}
+-- With room the text is written: the line with its end.
+use Rattle.std.proofs.Common.{rules, lit<}
+use Rattle.listing.proofs.Whole.{new_end, new_buffer, is_eighteen}
 use Rattle.listing.proofs.record_line.Goals as goal
 
-pub returns-then-room-lt-RECORD_LINE : goal.returns-then-room-lt-RECORD_LINE
-returns-then-room-lt-RECORD_LINE c = record { value = search (rules, whole); out_after = search (rules, whole); upper_bound = search rules }
+pub returns-clause-value : goal.returns-clause-value
+returns-clause-value c = rw (← is_eighteen) (new_end _ _ _ _ _ c.saturating_sub-room.ensures c.put_text.ensures.wrote c.if-room-lt-RECORD_LINE.false (lit< tt))
 
-pub returns : goal.returns
-returns c = record { value = search (rules, recorded); out_after = search (rules, recorded); upper_bound = search (rules, recorded) }
+pub returns-clause-out_after : goal.returns-clause-out_after
+returns-clause-out_after c =
+    let h = new_buffer _ _ _ _ _ c.saturating_sub-room.ensures c.put_text.ensures.wrote c.if-room-lt-RECORD_LINE.false (lit< tt) in
+    rw (← is_eighteen) (search (rules, h))

@@ -1,10 +1,7 @@
--- Where none is raised there are 0; else the raised flags below e are counted turn by turn.
-use Rattle.raised.specs.Below.{pairs_below}
-use Rattle.std.proofs.Common.{◌≤◌, ◌-◌, ◌≡◌, length}
+-- What is added up so far are the bits of the flags so far.
+use Rattle.std.proofs.Common.{◌≤◌, ◌≡◌, take, sum_by}
+use Rattle.laws.specs.Fold.{bit}
 use Rattle.raised.proofs.count.Given as goal
 
-abbrev pub invariant-loop-e : goal.invariant-loop-e
-invariant-loop-e l = (l.e ≤ length l.stalled) × (l.n ≤ l.e) × (l.n ≡ length (pairs_below l.stalled l.e))
-
-abbrev pub decreases-loop-e : goal.decreases-loop-e
-decreases-loop-e l = length l.stalled - l.e
+abbrev pub invariant-loop-on : goal.invariant-loop-on
+invariant-loop-on l = (l.n ≤ l.on-index) × (l.n ≡ sum_by bit (take l.on-index l.stalled))

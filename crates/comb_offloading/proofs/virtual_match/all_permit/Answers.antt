@@ -1,36 +1,25 @@
--- The places passed all permit; one that does not settles it, and over all places the walk is the definition's.
--- The measure is what is left of the places.
-use Rattle.board.specs.Board.{few}
-use Rattle.comb_offloading.proofs.Walk.{permitting}
-use Rattle.std.proofs.Common.{rules}
+-- `all` stops at the first place that does not permit, and over all places the walk is the definition's.
+use Rattle.std.proofs.Common.{rules, arith, ◌∙◌, ◌≡◌, ◌≤◌, ◌+◌, ◌*◌, Bool, ℕ, get_or}
+use Rattle.std.specs.List.{range_with_len, list_all}
+use Rattle.std.proofs.iter.Serving.{serving}
+use Rattle.std.proofs.lemmas.Iterator.{YieldsList-from_range}
+use Rattle.std.proofs.lemmas.Iterator.Search.{all_from_yields_List}
+use Rattle.board.specs.Board.{places_on, few}
+use Rattle.places.specs.Places.{edge_in, far_in}
+use Rattle.comb_offloading.specs.Around.{all_permit, all_permit_lem}
+use Rattle.comb_offloading.specs.On.{permits_on}
+use Rattle.comb_offloading.proofs.Listed.{all_listed}
 use Rattle.comb_offloading.proofs.virtual_match.all_permit.Goals as goal
 
-pub overflow_cast-v : goal.overflow_cast-v
-overflow_cast-v c = search (rules, permitting)
-
-pub degree-n-requires : goal.degree-n-requires
-degree-n-requires c = search (rules, permitting)
-
-pub loop-k-init : goal.loop-k-init
-loop-k-init c = search (rules, permitting, few)
-
-pub place-requires : goal.place-requires
-place-requires c = search (rules, permitting)
-
-pub permits-requires : goal.permits-requires
-permits-requires c = search (rules, permitting)
-
-pub returns-then-not-permits : goal.returns-then-not-permits
-returns-then-not-permits c = search (rules, permitting)
-
-pub overflow_add-k : goal.overflow_add-k
-overflow_add-k c = search (rules, permitting)
-
-pub loop-k-smaller : goal.loop-k-smaller
-loop-k-smaller c = search (rules, permitting)
-
-pub loop-k-preserved : goal.loop-k-preserved
-loop-k-preserved c = search (rules, permitting)
+pub all-requires-clause-callable : goal.all-requires-clause-callable
+all-requires-clause-callable c = let most : c.degree.result ≤ 16 = search (rules, few) in grind (arith, serving)
 
 pub returns : goal.returns
-returns c = search (rules, permitting)
+unfolding all_permit
+returns c =
+    let given = c.args in
+    let place : ℕ → ℕ = λ k. get_or (places_on given.stage.now.board.now.table) (given.regular * 16 + k) 0 in
+    let p : ℕ → Bool = λ k. permits_on given.stage.now.board.now.table given.stage.now.before.now given.stage.now.weights.now given.edge.number (edge_in (place k)) (far_in (place k)) in
+    let told : c.all.result ≡ list_all p (range_with_len 0 c.degree.result) =
+    all_from_yields_List p _ _ _ c.all.ensures.ran (YieldsList-from_range 0 c.degree.result c.degree.result (search rules) (omega arith)) (λ x b q k. search rules) in
+    told ∙ all_listed p c.degree.result ∙ rw c.degree.ensures (all_permit_lem _ _ _ _ given.stage.now.board.now.laid.wired _ (search rules))

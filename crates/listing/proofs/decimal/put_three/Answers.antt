@@ -1,7 +1,0 @@
--- One number after the other.
-use Rattle.laws.specs.Placed.{writes}
-use Rattle.std.proofs.Common.{rules}
-use Rattle.listing.proofs.decimal.put_three.Goals as goal
-
-pub returns : goal.returns
-returns c = search (rules, writes)

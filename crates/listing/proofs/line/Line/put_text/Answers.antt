@@ -1,0 +1,7 @@
+-- The part of the buffer behind the position is the text.
+use Rattle.std.proofs.Common.{refl, arith}
+use Rattle.listing.proofs.Puts.{puts, copied_over}
+use Rattle.listing.proofs.line.Line.put_text.Goals as goal
+
+pub returns : goal.returns
+returns c = puts refl (copied_over c.copy_from_slice.ensures.after (omega arith) (omega arith) (omega arith)) (omega arith)

@@ -1,2 +1,0 @@
-pub mod On
-pub mod Head
