@@ -10,6 +10,8 @@ use rules::tables::Weights;
 
 pub type Table = [u32; 8720];
 
+// An index in range is asked for by `edge` and `place` alone: it is a number of the caller's, and a type for it would be made for each call.
+
 // A table whose places are those of its edges.
 #[derive(Clone, Copy)]
 pub struct Board {
@@ -69,8 +71,8 @@ pub fn place(table: &Table, v: u8, k: u32) -> PlaceWord
     PlaceWord(table[v as usize * 16 + k as usize + 3_600])
 }
 
-// Counts go no further than their tables: the bounds are seen by the compiler, and save it work in the loops. Four functions and not one over the
-// place and the bound, which would have no definition to equal; so it is with `vertex` and `degree`.
+// Counts go no further than their tables: the bounds are seen by the compiler, and save it work in the loops. Four functions, since one would have
+// each caller name a place and a bound; so it is with `vertex` and `degree`.
 pub fn nv(table: &Table) -> usize
     ensures { result ≡ nv_on table.now }
 {

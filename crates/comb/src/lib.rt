@@ -20,7 +20,7 @@ use rules::refusal::Refusal;
 use rules::state::{Cycle, Searched, State, WordCycle};
 use rules::tables::no_flags;
 
-// A refused image opens no decoder: its graph is blank.
+// A refused image opens no decoder: its graph is blank, and every call on it is answered, so graph and state stand beside the Result.
 #[derive(Clone, Copy, Debug, PartialEq, Eq)]
 pub struct Decoder {
     pub graph: Graph,

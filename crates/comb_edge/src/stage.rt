@@ -35,7 +35,7 @@ impl<'a> Fetch<'a> {
     }
 }
 
-// The same of a board.
+// The same of a board. Two structs, since the readers of any table keep taking any table.
 #[derive(Clone, Copy)]
 pub struct Stage<'a> {
     pub board: &'a Board,

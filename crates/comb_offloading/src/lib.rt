@@ -1,4 +1,4 @@
-// Stage 2: which units hold, and what they stall.
+// Stage 2: which units hold, and what they stall. Clauses write out what a stage reads, since the definitions and their laws are of lists.
 #![tactic(auto)]
 
 mod boundary;

@@ -1,6 +1,7 @@
 // The lines of a replay's listing, each as bytes put into a lent buffer. A function returns the position after its line; where the buffer
 // lacks the room that the longest such line may take, it writes nothing and returns the position it was given. Buffer and position are taken apart,
-// since any two are answered; within, a `Line` holds both.
+// since any two are answered; within, a `Line` holds both. Each line has its room and its texts in a function of its own: of a closure for the texts
+// it would have to be said again what they put.
 #![tactic(auto)]
 
 mod finding;

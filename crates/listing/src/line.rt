@@ -1,4 +1,5 @@
-// A line that is being written: the lent buffer, and the position behind what is written.
+// A line that is being written: the lent buffer, and the position behind what is written. Each text asks for its own room (`HasRoom`), which no
+// invariant of the line can know.
 ghost use Rattle.std.specs.Prelude.{◌≡◌, ◌*◌, [], ◌∷◌, length};
 ghost use Rattle.rules.specs.Listing.{decimal, number, numbers};
 ghost use Rattle.listing.specs.Written.{HasRoom, Puts};

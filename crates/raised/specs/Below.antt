@@ -1,7 +1,9 @@
 -- The raised flags below e: what a walk over the flags has met when it stands at e, and when it has met them all.
-use Rattle.std.specs.Prelude.{ℕ, zero, suc, ◌+◌, ◌-◌, ◌≤◌, ◌<◌, ◌≡◌, Bool, true, false, List, [], ◌∷◌, ◌++◌, length, take, get_or}
+use Rattle.std.specs.Prelude.{ℕ, zero, suc, ◌+◌, ◌-◌, ◌≤◌, ◌<◌, ◌≡◌, Bool, true, false, not, ◌||◌, List, [], ◌∷◌, ◌++◌, ltb, length, take, get_or}
 use Rattle.std.proofs.Math.Path.{refl}
-use Rattle.std.proofs.Common.{sym, ap, add-zero, zero-add, add-suc, suc-add, add-one, arith}
+use Rattle.std.proofs.Common.{sym, ap, ap₂, ◌∙◌, add-zero, zero-add, add-suc, suc-add, add-one, arith, length-append, take_all, ltb-false, lt-ltb}
+use Rattle.std.proofs.lemmas.Bool.{not-true}
+use Rattle.laws.specs.Fold.{bit}
 use Rattle.rules.specs.Pairs.{raised_from}
 
 -- an edge's number where it is stalled
@@ -50,6 +52,20 @@ as_many i (suc e) [] h = refl
 as_many i (suc e) (true ∷ fs) h = ap (λ (ps : List ℕ). i ∷ ps) (as_many (suc i) e fs (omega arith))
 as_many i (suc e) (false ∷ fs) h = as_many (suc i) e fs h
 
+length_pair : (e : ℕ) (b : Bool) → length (pair_at e b) ≡ bit b
+unfolding pair_at
+length_pair e true = refl
+length_pair e false = refl
+
+-- a sum with a flag's bit is some where one of the two is
+some_with : (n : ℕ) (b : Bool) → (ltb 0 n || b) ≡ ltb 0 (n + bit b)
+some_with zero true = refl
+some_with zero false = refl
+some_with (suc n) b = rw (lt-ltb 0 (suc n) (omega arith), lt-ltb 0 (suc n + bit b) (omega arith))
+
+not_some : (n : ℕ) → not (ltb 0 n) ≡ true → 0 ≡ n
+not_some n h = omega (arith, ltb-false 0 n (not-true _ h))
+
 -- ---- from the start
 
 module _ (flags : List Bool) where
@@ -64,6 +80,32 @@ module _ (flags : List Bool) where
   pub below_fewer : (e : ℕ) → length (pairs_below flags e) ≤ length (raised_from 0 flags)
   unfolding pairs_below
   below_fewer e = fewer 0 e flags
+
+  -- how many
+  pub count_none : 0 ≡ length (pairs_below flags 0)
+  count_none = rw below_none
+
+  pub count_next : (e n b : ℕ) → n ≡ length (pairs_below flags e) → b ≡ bit (get_or flags e false) → n + b ≡ length (pairs_below flags (e + 1))
+  count_next e n b p q =
+      rw (below_next e, length-append (pairs_below flags e)) (ap₂ (λ (x y : ℕ). x + y) p (q ∙ sym (length_pair e (get_or flags e false))))
+
+  pub count_end : (e n : ℕ) → n ≡ length (pairs_below flags e) → length flags ≤ e → n ≡ length (raised_from 0 flags)
+  unfolding pairs_below
+  count_end e n p g = p ∙ rw (take_all e flags g)
+
+  -- whether any
+  pub any_none : false ≡ ltb 0 (length (pairs_below flags 0))
+  any_none = rw below_none
+
+  pub any_next : (e : ℕ) (r b : Bool) → r ≡ ltb 0 (length (pairs_below flags e)) → b ≡ get_or flags e false → (r || b) ≡ ltb 0 (length (pairs_below flags (e + 1)))
+  any_next e r b p q =
+      rw (p, q) (some_with (length (pairs_below flags e)) (get_or flags e false) ∙ ap (ltb 0) (count_next e _ _ refl refl))
+
+  pub any_end : (e : ℕ) (r : Bool) → r ≡ ltb 0 (length (pairs_below flags e)) → length flags ≤ e → r ≡ ltb 0 (length (raised_from 0 flags))
+  any_end e r p g = p ∙ ap (ltb 0) (count_end e _ refl g)
+
+  pub none_raised : {r : Bool} → r ≡ ltb 0 (length (raised_from 0 flags)) → not r ≡ true → 0 ≡ length (raised_from 0 flags)
+  none_raised p h = not_some (length (raised_from 0 flags)) (rw p at h)
 
   -- while fewer than all are met, there is a flag at e
   module _ {met n : ℕ} (fewer-met : met < n) (counted : n ≡ length (raised_from 0 flags)) (e : ℕ) (are-met : met ≡ length (pairs_below flags e)) where
@@ -84,6 +126,12 @@ module _ (flags : List Bool) where
   pub all_met : {met n : ℕ} → n ≤ met → n ≡ length (raised_from 0 flags) → (e : ℕ) → met ≡ length (pairs_below flags e) → pairs_below flags e ≡ raised_from 0 flags
   unfolding pairs_below
   all_met g counted e are-met = as_many 0 e flags (omega arith)
+
+-- for `search (needs, counting)` at every need of a loop that counts
+pub ruleset counting = (count_none, count_next, count_end)
+
+-- for `search (needs, looking)` at every need of a loop that looks for one
+pub ruleset looking = (any_none, any_next, any_end)
 
 -- for `search (needs, stopping)` where a loop stops when all are met
 pub ruleset stopping = (more_left, more_next, more_below, more_less)

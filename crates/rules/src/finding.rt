@@ -39,7 +39,7 @@ impl From<OddRemaining> for Refusal {
     }
 }
 
-// What a word is answered that was carried out: it may carry a reset.
+// What a word is answered that was carried out. A reset is an answer, too: no Option, in which it would be an absence.
 #[derive(Clone, Copy, Debug, PartialEq, Eq)]
 pub enum Carried {
     Found(Finding),
@@ -53,6 +53,7 @@ pub struct Tally {
     pub steps: u32,
 }
 
+// Three ends, of which two have a tally: no Result, which has two.
 #[derive(Clone, Copy, Debug, PartialEq, Eq)]
 pub enum Sought {
     NotBegun(Refusal),

@@ -37,7 +37,7 @@ pub struct Accepted {
     pub start: usize,
 }
 
-// A refused image comes with a blank graph.
+// A refused image comes with a blank graph, on which every call is answered: so the graph stands beside the Result.
 #[derive(Clone, Copy, Debug, PartialEq, Eq)]
 pub struct Opened {
     pub graph: Graph,

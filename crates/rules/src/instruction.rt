@@ -55,7 +55,7 @@ pub struct Field {
     pub width: u32,
 }
 
-// A kind of word: the value of its lowest bits and how many these are, the same of its extended code from bit 3 on, and its fields A and B.
+// A kind of word, by its bits: the value of its lowest bits and how many these are, the same of its extended code from bit 3 on, and its fields A and B.
 #[derive(Clone, Copy, Debug, PartialEq, Eq)]
 pub struct WordKind {
     pub low: u32,
@@ -66,7 +66,7 @@ pub struct WordKind {
     pub b: Field,
 }
 
-// What a word asks.
+// What a word asks. A reset is asked for as an instruction is: no Option, in which it would be an absence.
 #[derive(Clone, Copy, Debug, PartialEq, Eq)]
 pub enum Asked {
     Says(Instruction),

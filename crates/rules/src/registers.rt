@@ -45,6 +45,7 @@ pub struct Lead {
     pub root: NodeIndex,
 }
 
+// No `TryFrom`: each two bits are a speed.
 #[tactic(auto, using(laws::specs::Tests::tests), unfolding(crate::specs::Registers::speed_of, laws::specs::Choice::pick))]
 fn speed_of(code: u64) -> CompactGrowState
     ensures { result ≡ Registers.speed_of code }

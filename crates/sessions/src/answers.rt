@@ -36,6 +36,7 @@ fn show_pairs(out: &mut Output<impl Print>, state: State) {
     let _ = out.write_str("\n");
 }
 
+// A record's kind as it stands in the file; `show_records` lets 0 to 3 through.
 fn show_record(
     out: &mut Output<impl Print>,
     graph: Graph,

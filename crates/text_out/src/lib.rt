@@ -1,4 +1,4 @@
-// What a replay writes to standard output, and when it has no more to do.
+// What a replay writes to standard output, and when it has no more to do. The buffer is lent to each function, since each promises what it leaves in it.
 #![tactic(auto)]
 
 ghost use Rattle.std.specs.Prelude.{◌≡◌, false, ◌<◌, min, length};
