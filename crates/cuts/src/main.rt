@@ -10,6 +10,7 @@ use std::io::Input;
 use text_out::{gets_on, put, show_end, show_head, show_refusal};
 
 // Each chunk is longer than the one before it, up to 17 bytes, so the records get on. The turns are counted, up to a number that no run reaches.
+// Runtime and buffer are handed on apart, as `text_out` takes them.
 fn show_records(
     rt: &(impl Print + Eprint),
     graph: Graph,

@@ -12,7 +12,8 @@ use session::run_chunk;
 use std::io::Input;
 use text_out::{gets_on, put, show_end, show_head, show_refusal};
 
-// The input may never end, so the turns are counted, up to a number that no run reaches.
+// The input may never end, so the turns are counted, up to a number that no run reaches. Runtime and buffer are handed on apart, as `text_out` takes
+// them.
 fn replay(
     rt: &(impl Input + Print + Eprint),
     graph: Graph,

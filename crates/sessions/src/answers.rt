@@ -1,4 +1,4 @@
-// A session's listing, from the decoder's calls by value.
+// A session's listing, from the decoder's calls by value: graph and state are handed on as these take them.
 use crate::output::Output;
 use crate::registers::show_registers;
 use listing::{answer_line, bad_line, first_line, record_line};

@@ -63,6 +63,7 @@ fn show_index(rt: &impl Print, n: u16) {
     }
 }
 
+// The letter is the line's own, and may be any.
 fn show(rt: &impl Print, letter: u8, number: u32) {
     match letter {
         b'w' => show_word(rt, number),
