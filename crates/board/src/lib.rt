@@ -10,7 +10,8 @@ use rules::tables::Weights;
 
 pub type Table = [u32; 8720];
 
-// An index in range is asked for by `edge` and `place` alone: it is a number of the caller's, and a type for it would be made for each call.
+// Of these functions `edge` and `place` ask for an index in range. Most callers count up to a bound, so a type for it would be made at each call;
+// where a number is kept, it has one (`EdgeAt` in comb_offloading).
 
 // A table whose places are those of its edges.
 #[derive(Clone, Copy)]

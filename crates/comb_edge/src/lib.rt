@@ -31,7 +31,7 @@ impl Edge {
         VertexIndex((self.0 / 256 % 256) as u16)
     }
 
-    // Over 255 for none: the entry's own number, which the rules compare.
+    // Over 255 for none. No Option: the definitions take the entry's own number, and compare it with 256.
     pub fn condition(self) -> VertexIndex
         ensures { result.0 ≡ self.0 / 65_536 }
     {

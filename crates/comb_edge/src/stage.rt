@@ -35,7 +35,7 @@ impl<'a> Fetch<'a> {
     }
 }
 
-// The same of a board. Two structs, since the readers of any table keep taking any table.
+// The same of a board. Two structs: what needs only a table is promised of any table, and a board holds only a laid one.
 #[derive(Clone, Copy)]
 pub struct Stage<'a> {
     pub board: &'a Board,

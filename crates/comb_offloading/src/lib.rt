@@ -1,4 +1,5 @@
-// Stage 2: which units hold, and what they stall. Clauses write out what a stage reads, since the definitions and their laws are of lists.
+// Stage 2: which units hold, and what they stall. Clauses name table, registers and weights one by one,
+// since the definitions and their laws are of lists.
 #![tactic(auto)]
 
 mod boundary;

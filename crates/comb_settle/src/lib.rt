@@ -1,5 +1,5 @@
 // Stages 5 and 6 over all vertices, and what these report in stage 7. Beside the stage stands what stage 3 made of it, `executed`: a struct of the
-// two would be made by one caller and opened by each function.
+// two would be made by one caller and opened again by the four functions that take both.
 #![tactic(auto)]
 
 mod mark;

@@ -1,4 +1,4 @@
-// Stage 4: the propagating peer. What is fetched are the fetch weights by the registers before the instruction; `executed` are those after it.
+// Stage 4: the propagating peer. What is fetched are the fetch weights by the registers before the instruction; `executed` are those after stage 3.
 ghost use Rattle.std.specs.Prelude.{◌≡◌};
 ghost use Rattle.std.proofs.Math.Option.{some};
 ghost use Rattle.rules.specs.Peer.{lead_by};

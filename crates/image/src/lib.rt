@@ -73,8 +73,8 @@ fn fusion_word(bytes: &[u8], e: u16) -> u32
     u32::from(e) + u32::from(condition(bytes, e)) * 1024 + 524288
 }
 
-// ---- the tables. That the image is not refused is asked for by the four private functions that `open` calls where it knows it: a type for it would be
-// made once, there.
+// ---- the tables. Four private functions ask that the image is not refused: `accepted`, which `open` calls once it knows, and those within it. A type
+// for it would be made in `open` alone, and opened by each.
 
 // A word for each index below `n`, and 0 after them.
 fn table<const N: usize, F: Fn(u16) -> u32>(n: u16, word: F) -> [u32; N]

@@ -29,7 +29,7 @@ pub struct EdgeRecord {
     pub condition: u16,
 }
 
-// As the image has it, like the other records: what a byte stands for is judged above, and it may be any.
+// As the image has it, like the other records: any byte may stand there, and image_refusal judges it.
 #[derive(Clone, Copy, Debug, PartialEq, Eq)]
 pub struct UnitRecord {
     pub kind: u8,

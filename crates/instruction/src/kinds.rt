@@ -52,6 +52,7 @@ fn plain(low: u32, lows: u32, a: Field, b: Field) -> WordKind
     }
 }
 
+// The code is a pattern of bits, which `Kind` has a name for.
 fn extended(code: u32, a: Field) -> WordKind
     ensures { result ≡ kind_of 4 3 code 3 a no_field }
 {

@@ -32,7 +32,7 @@ fn is_kind(kind: Kind, word: u32) -> bool
     read_field(word, low) == bits.low && read_field(word, code) == bits.code
 }
 
-// "Speed 3 [gives] 12." The one place where a code is refused, so it is no `TryFrom`, whose error would be turned into 12 here.
+// "Speed 3 [gives] 12." The one place where a speed's code is refused: a `TryFrom` would have an error that is turned into 12 here.
 #[tactic(auto, using(crate::proofs::Unpacking::no_speed), unfolding(rules::specs::Words::speed_asked))]
 fn speed_asked(node: NodeIndex, code: u16) -> Result<Asked, Refusal>
     ensures { result ≡ speed_asked node code }

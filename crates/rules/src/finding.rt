@@ -53,7 +53,7 @@ pub struct Tally {
     pub steps: u32,
 }
 
-// Three ends, of which two have a tally: no Result, which has two.
+// Three ends, of which two have a tally: no Result, which has two ends.
 #[derive(Clone, Copy, Debug, PartialEq, Eq)]
 pub enum Sought {
     NotBegun(Refusal),

@@ -45,7 +45,7 @@ pub struct Lead {
     pub root: NodeIndex,
 }
 
-// No `TryFrom`: each two bits are a speed.
+// No `TryFrom`: nothing is refused, and any value that is neither 1 nor 2 is Stay.
 #[tactic(auto, using(laws::specs::Tests::tests), unfolding(crate::specs::Registers::speed_of, laws::specs::Choice::pick))]
 fn speed_of(code: u64) -> CompactGrowState
     ensures { result ≡ Registers.speed_of code }

@@ -1,4 +1,5 @@
-// What a replay writes to standard output, and when it has no more to do. The buffer is lent to each function, since each promises what it leaves in it.
+// What a replay writes to standard output, and when it has no more to do. The functions that make
+// a line are lent the buffer, since each promises what it leaves in it.
 #![tactic(auto)]
 
 ghost use Rattle.std.specs.Prelude.{◌≡◌, false, ◌<◌, min, length};
