@@ -1,4 +1,4 @@
-// One instruction's cycle on lent tables: stages 1 to 8.
+// One instruction's cycle on a lent state: stages 1 to 8.
 ghost use Rattle.std.specs.Prelude.{◌≡◌};
 ghost use Rattle.board.specs.Board.{graph_on};
 ghost use Rattle.rules.specs.Instruct.{step};

@@ -1,4 +1,4 @@
-// One instruction on lent tables: stages 1 to 8.
+// One instruction on a lent state: stages 1 to 8.
 #![tactic(auto)]
 
 pub mod cycle;

@@ -1,4 +1,4 @@
-// The decoder's calls on lent tables: an instruction, a word, the searches, the pair list.
+// The decoder's calls on a lent state: an instruction, a word, the searches, the pair list.
 #![tactic(auto)]
 
 mod bounds;

@@ -98,9 +98,6 @@ module _ (g : Graph) (s t : State) (r : Result Turn Refusal) (e : record { state
     pub grew_most : t.maximum + n ≡ s.maximum
     grew_most = (rw q at falls).1
 
-    pub grew_alone : k ≡ 0
-    grew_alone = (rw q at falls).2
-
 -- ---- the loop
 
 module _ (g : Graph) (all : Searched) where

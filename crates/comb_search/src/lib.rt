@@ -1,4 +1,4 @@
-// Document 01, "Search", on lent tables.
+// Document 01, "Search", on a lent state.
 #![tactic(auto)]
 
 pub mod search;

@@ -5,7 +5,7 @@ ghost use Rattle.laws.specs.Listed.{slots};
 use std::marker::Model;
 
 #[derive(Drop)]
-pub struct Units {
+pub(crate) struct Units {
     count: usize,
     words: [u32; 2048],
 }
@@ -20,7 +20,7 @@ impl Model for Units {
 }
 
 impl Units {
-    pub fn new() -> Units
+    pub(crate) fn new() -> Units
         ensures { result ≡ [] }
     {
         Units {
@@ -29,14 +29,14 @@ impl Units {
         }
     }
 
-    pub fn len(&self) -> usize
+    pub(crate) fn len(&self) -> usize
         ensures { result ≡ length self.now }
     {
         self.count
     }
 
     #[tactic(auto, using(crate::proofs::Lists::below, crate::proofs::Lists::one_more, crate::proofs::Lists::stored))]
-    pub fn push(&mut self, word: u32)
+    pub(crate) fn push(&mut self, word: u32)
         requires { length self.old < 2_048 }
         ensures { self.new ≡ self.old ++ word ∷ [] }
     {
@@ -44,7 +44,7 @@ impl Units {
         self.count += 1;
     }
 
-    pub fn into_array(self) -> [u32; 2048]
+    pub(crate) fn into_array(self) -> [u32; 2048]
         ensures { result ≡ slots 2_048 self }
     {
         self.words

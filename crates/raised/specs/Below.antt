@@ -1,4 +1,5 @@
--- The raised flags below e: what a walk over the flags has met when it stands at e, and when it has met them all.
+-- The raised flags below e: what a walk over the flags has met when it stands at e, and when it has met them all. No loop walks by an index now
+-- (specs/Walk.antt has what `numbers` goes by), and these laws stand for what they say of `raised_from`.
 use Rattle.std.specs.Prelude.{ℕ, zero, suc, ◌+◌, ◌-◌, ◌≤◌, ◌<◌, ◌≡◌, Bool, true, false, not, ◌||◌, List, [], ◌∷◌, ◌++◌, ltb, length, take, get_or}
 use Rattle.std.proofs.Math.Path.{refl}
 use Rattle.std.proofs.Common.{sym, ap, ap₂, ◌∙◌, add-zero, zero-add, add-suc, suc-add, add-one, arith, length-append, take_all, ltb-false, lt-ltb}
@@ -126,12 +127,3 @@ module _ (flags : List Bool) where
   pub all_met : {met n : ℕ} → n ≤ met → n ≡ length (raised_from 0 flags) → (e : ℕ) → met ≡ length (pairs_below flags e) → pairs_below flags e ≡ raised_from 0 flags
   unfolding pairs_below
   all_met g counted e are-met = as_many 0 e flags (omega arith)
-
--- for `search (needs, counting)` at every need of a loop that counts
-pub ruleset counting = (count_none, count_next, count_end)
-
--- for `search (needs, looking)` at every need of a loop that looks for one
-pub ruleset looking = (any_none, any_next, any_end)
-
--- for `search (needs, stopping)` where a loop stops when all are met
-pub ruleset stopping = (more_left, more_next, more_below, more_less)

@@ -142,11 +142,6 @@ pub record Under (g : Graph) (first : State) (bs before : List ℕ) (s : State) 
   pub makes : Makes g first bs before used written out (chunk g s (length out - written) (drop used bs))
 
 module _ {g : Graph} {first : State} {bs before : List ℕ} where
-  pub starting : length first.stalled ≡ 1_024 → Under g first bs before first 0 0 before
-  starting h =
-      let all : length before - 0 ≡ length before = omega arith in
-      record { flags = h; same = refl; makes = record { within = omega arith; inside = omega arith; whole = rw all } }
-
   -- the chunk that was left stops the loop
   module _ {used written : ℕ} {out : List ℕ} {why : Stop} {s : State} (m : Makes g first bs before used written out (stopped why s)) where
     pub told : record { state = s; used = used; written = written; stop = why } ≡ done_of (chunk g first (length before) bs)
