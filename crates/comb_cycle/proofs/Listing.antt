@@ -1,6 +1,6 @@
 -- A vertex written behind those listed leaves them as they are, and is one of them where it grows; a walk over those listed is the walk over all
 -- vertices that passes by the others.
-use Rattle.std.proofs.Common.{ℕ, zero, suc, ◌+◌, ◌≤◌, ◌<◌, ◌≡◌, refl, sym, ap, ◌∙◌, Bool, true, false, List, [], add-zero, add-one, arith, length, get_or, set, take, lt-length-set, take-suc, get_or-set_same, get_or-take, length-set}
+use Rattle.std.proofs.Common.{ℕ, zero, suc, ◌+◌, ◌≤◌, ◌<◌, ◌≡◌, refl, sym, ap, ◌∙◌, Bool, true, false, List, add-zero, add-one, arith, length, get_or, set, take, lt-length-set, take-suc, get_or-set_same, get_or-take, length-set, length-take-le}
 use lib.Seq.{take-set-le}
 use Rattle.laws.specs.Fold.{up_to, bit, bit_most, count_to, count_most}
 use Rattle.laws.specs.Listed.{indices}
@@ -15,10 +15,6 @@ use Rattle.comb_cycle.proofs.Covered.{heard}
 use Rattle.comb_cycle.proofs.Strengths.{strengths}
 
 -- ---- listing
-
-pub lists_begin : (p : ℕ → Bool) → ◌≡◌ {A = List ℕ} [] (indices p 0)
-unfolding indices
-lists_begin p = refl
 
 -- v is written behind the n below it that pass
 module _ (p : ℕ → Bool) (xs : List ℕ) (n v : ℕ) (inside : n < length xs) (so_far : take n xs ≡ indices p v) where
@@ -48,13 +44,31 @@ module _ (p : ℕ → Bool) (xs : List ℕ) where
   listed_are zero l = refl
   listed_are (suc n) l = by_pass p (listed p xs n) (count_to p n) n (rw (length_listed n) (omega (arith, count_most p n))) (listed_are n (omega arith)) (p n) refl
 
-module _ (ss xs : List ℕ) (n v : ℕ) where
-  -- g is 1 where v shows Grow
-  pub lists_next : {g : ℕ} → g ≡ bit (growing (view (get_or ss v 0)).speed) → n < length xs → take n xs ≡ indices (grows_at ss) v → take (n + g) (set xs n v) ≡ indices (grows_at ss) (v + 1)
-  unfolding at
-  lists_next q inside h = rw (add-one v, q) (by_pass (grows_at ss) xs n v inside h (grows_at ss v) refl)
+-- ---- the turns of the walk
 
-pub ruleset lists = (lists_begin, lists_next, bit_most)
+module _ (p : ℕ → Bool) where
+  pub count_begins : 0 ≡ count_to p 0
+  unfolding up_to
+  count_begins = refl
+
+  module _ (xs : List ℕ) where
+    pub lists_begin : xs ≡ listed p xs 0
+    unfolding listed up_to
+    lists_begin = refl
+
+    pub lists_next : (n v : ℕ) {t : List ℕ} → n ≡ count_to p v → t ≡ listed p xs v → set t n v ≡ listed p xs (v + 1)
+    unfolding listed up_to
+    lists_next n v h i = rw (add-one v, h, i)
+
+    pub lists_end : (n r : ℕ) {t : List ℕ} → n ≡ count_to p r → t ≡ listed p xs r → r ≤ length xs → take n t ≡ indices p r
+    lists_end n r h i l = rw (h, i) (listed_are p xs r l)
+
+-- g is 1 where v shows Grow
+pub count_next : (ss : List ℕ) (n v : ℕ) {g : ℕ} → g ≡ bit (growing (view (get_or ss v 0)).speed) → n ≡ count_to (grows_at ss) v → n + g ≡ count_to (grows_at ss) (v + 1)
+unfolding up_to at
+count_next ss n v q h = rw (add-one v, h, q)
+
+pub ruleset lists = (count_begins, count_next, lists_begin, lists_next, lists_end, bit_most)
 
 -- ---- hearing those listed
 
@@ -78,3 +92,14 @@ module _ (es fs ys ss : List ℕ) (ne : ℕ) where
       = λ k b. sym (get_or-take (count_to p r) (listed p xs r) k 0 b) ∙ ap (λ (t : List ℕ). get_or t k 0) (listed_are p xs r l) in
       up_to_same _ (λ k c. stronger c (heard_from (indices p r) k)) silent (count_to p r) (λ k c b. ap (λ (v : ℕ). stronger c (strongest_at es fs ys ss ne v)) (stands k b))
       ∙ rw (← length_indices p r) (indices_heard r)
+
+  -- a walk over the slice of those listed
+  pub slice_heard : (xs : List ℕ) (r : ℕ) → r ≤ length xs → let ls = take (count_to (grows_at ss) r) (listed (grows_at ss) xs r) in strongest_of (heard_from ls) (length ls) ≡ strongest_of (heard es fs ys ss ne) r
+  unfolding strongest_of joined heard_from
+  slice_heard xs r l =
+      let p = grows_at ss in
+      let c = count_to p r in
+      let fits : c ≤ length (listed p xs r) = rw (length_listed p xs r) (omega (arith, count_most p r)) in
+      let stands : (k : ℕ) → k < c → get_or (take c (listed p xs r)) k 0 ≡ get_or (listed p xs r) k 0 = λ k b. get_or-take c (listed p xs r) k 0 b in
+      rw (length-take-le c (listed p xs r) fits)
+      (up_to_same _ (λ k t. stronger t (heard_from (listed p xs r) k)) silent c (λ k t b. ap (λ (v : ℕ). stronger t (strongest_at es fs ys ss ne v)) (stands k b)) ∙ listed_heard xs r l)

@@ -1,8 +1,7 @@
 -- Each turn of a walk takes in one report more; at its end a walk has what all edges report, and the strongest report is the answer. Over variables.
-use Rattle.std.proofs.Common.{ℕ, ◌+◌, ◌*◌, ◌≤◌, ◌<◌, min, ◌≡◌, refl, sym, ap, ◌∙◌, subst, List, add-one, arith, length, get_or, Err, Ok}
+use Rattle.std.proofs.Common.{ℕ, ◌+◌, ◌*◌, ◌≤◌, ◌<◌, min, ◌≡◌, refl, sym, ap, ◌∙◌, subst, List, add-one, arith, length, take, get_or, Err, Ok}
 use Rattle.laws.specs.Choice.{pick}
-use Rattle.laws.specs.Fold.{up_to}
-use Rattle.laws.specs.Listed.{indices}
+use Rattle.laws.specs.Fold.{up_to, count_to}
 use Rattle.laws.specs.Semilattice.{joined}
 use Rattle.rules.specs.Reduce.{reduce}
 use Rattle.rules.specs.Respond.{edge_response}
@@ -15,7 +14,7 @@ use Rattle.rules.specs.Types.{Response, odd_remaining}
 use Rattle.places.specs.Ends.{Ends}
 use Rattle.places.specs.Places.{edge_in, far_in}
 use Rattle.places.specs.Wired.{Wired}
-use Rattle.comb_cycle.specs.Listed.{grows_at}
+use Rattle.comb_cycle.specs.Listed.{grows_at, listed}
 use Rattle.comb_cycle.specs.Rank.{report_in}
 use Rattle.comb_cycle.specs.Responses.{responded}
 use Rattle.comb_cycle.specs.Strongest.{stronger, strongest_of, report_from, strongest, strongest_at, answer, reduced_with}
@@ -25,7 +24,7 @@ use Rattle.comb_cycle.proofs.Strengths.{strengths}
 use Rattle.comb_cycle.proofs.Ranks.{lesser_stronger}
 use Rattle.comb_cycle.proofs.Answers.{conflict_below, answered}
 use Rattle.comb_cycle.proofs.Covered.{place_report, places_strongest, heard_strongest}
-use Rattle.comb_cycle.proofs.Listing.{heard_from, indices_heard}
+use Rattle.comb_cycle.proofs.Listing.{heard_from, slice_heard}
 
 pub walk_begins : (f : ℕ → Report) → report_in 12_884_901_888 ≡ strongest_of f 0
 unfolding strongest_of joined up_to report_in pick
@@ -65,10 +64,11 @@ module _ (es fs ys ss : List ℕ) (ne : ℕ) (xs : List ℕ) where
   unfolding heard_from
   vertex_turn i p h = one_more (heard_from es fs ys ss ne xs) i p refl h
 
-  pub vertices_end : (i r : ℕ) {a : Report} → a ≡ strongest_of (heard_from es fs ys ss ne xs) i → length xs ≡ i → xs ≡ indices (grows_at ss) r → {m : ℕ} → r ≡ m → Ends es ne m
-      → a ≡ strongest es fs ys ss ne
-  vertices_end i r h all which same ends =
-      h ∙ rw (← all, which) (indices_heard es fs ys ss ne r) ∙ heard_strongest es fs ys ss ne r (subst (λ (q : ℕ). Ends es ne q) (sym same) ends)
+  pub vertices_end : (ts : List ℕ) (i r : ℕ) {a : Report} → a ≡ strongest_of (heard_from es fs ys ss ne xs) i → length xs ≡ i
+      → {n : ℕ} {ls : List ℕ} → xs ≡ take n ls → n ≡ count_to (grows_at ss) r → ls ≡ listed (grows_at ss) ts r → r ≤ length ts
+      → {m : ℕ} → r ≡ m → Ends es ne m → a ≡ strongest es fs ys ss ne
+  vertices_end ts i r h all slice many which inside same ends =
+      h ∙ rw (← all, slice, many, which) (slice_heard es fs ys ss ne ts r inside) ∙ heard_strongest es fs ys ss ne r (subst (λ (q : ℕ). Ends es ne q) (sym same) ends)
 
 -- ---- what is answered: x is the strongest report, whose rank r is, and y what the edge of a conflict responds
 

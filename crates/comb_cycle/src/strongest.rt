@@ -29,8 +29,9 @@ impl<'a> Settled<'a> {
     {
         let reach = board::reach(&self.stage.board.table);
         let mut vertices = [0u8; 256];
+        let n = list_growing(self.shadows, reach, &mut vertices);
         let mut strongest = NO_LIMIT;
-        for &v in list_growing(self.shadows, reach, &mut vertices) {
+        for &v in &vertices[..n] {
             strongest = self.strongest_at(v, strongest);
         }
         strongest

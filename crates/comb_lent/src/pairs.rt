@@ -1,25 +1,42 @@
 // "Pairs are the stalled edges of the last completed instruction, by index"
-ghost use Rattle.std.specs.Prelude.{◌≡◌, length};
+ghost use Rattle.std.specs.Prelude.{◌≡◌, ◌≤◌, length};
+ghost use Rattle.laws.specs.Placed.{placed};
 ghost use Rattle.rules.specs.Pairs as Pairs;
 ghost use Rattle.comb_lent.specs.Raised.{with_pairs};
 
-use raised::numbers;
+use raised::count;
 use rules::refusal::Refusal;
 use rules::tables::Stalls;
 
-// "writes edge numbers into a u16 buffer from its start". "19: pair list longer than the buffer lent; buffer and decoder unchanged"
+// "writes edge numbers into a u16 buffer from its start". Up to the last: behind it no flag is looked at, and most lists are short. No walk over
+// `raised::numbers`: with it a full list took twice the time.
+fn put_pairs(buffer: &mut [u16], stalled: &Stalls, n: usize)
+    requires n_value { n ≡ length (Pairs.raised_from 0 stalled.now) }
+    requires n_in_bounds { n ≤ length buffer.old }
+    ensures { buffer.new ≡ placed 0 (Pairs.raised_from 0 stalled.now) buffer.old }
+{
+    let mut written = 0;
+    for e in 0..1_024 {
+        if written == n {
+            break;
+        }
+        if stalled[e] {
+            buffer[written] = e as u16;
+            written += 1;
+        }
+    }
+}
+
+// "19: pair list longer than the buffer lent; buffer and decoder unchanged"
 #[tactic(auto, using(crate::proofs::Listing::listings))]
 pub fn list_pairs(stalled: &Stalls, buffer: &mut [u16]) -> Result<usize, Refusal>
     ensures value { result ≡ Pairs.listed (with_pairs stalled.now) (length buffer.old) }
     ensures buffer_after { buffer.new ≡ Pairs.buffered (with_pairs stalled.now) buffer.old }
 {
-    let pairs = numbers(stalled);
-    let n = pairs.len();
+    let n = count(stalled);
     if buffer.len() < n {
         return Err(Refusal::ListTooLong);
     }
-    for (at, e) in pairs.enumerate() {
-        buffer[at] = e;
-    }
+    put_pairs(buffer, stalled, n);
     Ok(n)
 }

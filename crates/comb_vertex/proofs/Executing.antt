@@ -26,20 +26,20 @@ module _ (vs rs : List ℕ) (stalled : List Bool) (i : Instruction) where
 
   module _ (v : ℕ) (x : Executed) (t : x ≡ execute_at vs rs stalled i v) where
     module _ (y : VertexRegisters) (e : x ≡ Ok y) where
-      done_at : execute_at vs rs stalled i v ≡ Ok y
-      done_at = sym t ∙ e
+      done_at_lem : execute_at vs rs stalled i v ≡ Ok y
+      done_at_lem = sym t ∙ e
 
       pub turn_refusal : execute_refusal vs rs stalled i v ≡ none → execute_refusal vs rs stalled i (v + 1) ≡ none
       unfolding execute_refusal
-      turn_refusal p = first_pass v (λ w. refusal_of (execute_at vs rs stalled i w)) p (rw done_at)
+      turn_refusal p = first_pass v (λ w. refusal_of (execute_at vs rs stalled i w)) p (rw done_at_lem)
 
       pub turn_count : executed_count vs rs stalled i v ≡ v → executed_count vs rs stalled i (v + 1) ≡ v + 1
       unfolding executed_count
-      turn_count p = leading_pass (λ w. is_done (execute_at vs rs stalled i w)) v p (rw done_at)
+      turn_count p = leading_pass (λ w. is_done (execute_at vs rs stalled i w)) v p (rw done_at_lem)
 
       pub turn_word : (z : ℕ) (b : Bool) → z ≡ keep y → b ≡ true → b ≡ concerns i v (at rs v) → z ≡ executed_word vs rs stalled i v
       unfolding executed_word pick
-      turn_word z true p q c = rw (← c, done_at, p)
+      turn_word z true p q c = rw (← c, done_at_lem, p)
       turn_word z false p q c = cc
 
   -- the vertex v is refused

@@ -1,6 +1,7 @@
 // The decoder as a library: an image, two defects, a search and the pairs, and what each call answers.
 #![tactic(auto)]
 
+use listing::refusal_number;
 use rules::finding::{Finding, Length, Sought};
 use rules::index::{NodeIndex, VertexIndex};
 use rules::instruction::Instruction;
@@ -39,19 +40,22 @@ fn main(rt: HostRuntime) {
     let two = comb::execute(graph, one.state, add_defect(1));
     let _ = match two.answer {
         Ok(finding) => println!(rt; "{}", Told(finding)),
-        Err(why) => println!(rt; "refused: {why}"),
+        Err(why) => println!(rt; "refused: {}", refusal_number(why)),
     };
     let searched = comb::search_to(graph, two.state, 1_000);
     let _ = match searched.answer {
         Sought::Found(finding, tally) => {
             println!(rt; "search: {}, after growth {}", Told(finding), tally.growth)
         }
-        Sought::Stopped(why, _) | Sought::NotBegun(why) => println!(rt; "search: refused: {why}"),
+        Sought::Stopped(why, _) | Sought::NotBegun(why) => println!(rt;
+            "search: refused: {}",
+            refusal_number(why)
+        ),
     };
     let mut edges = [0u16; 1];
     let listed = comb::list_pairs(searched.state, &mut edges);
     let _ = match listed {
         Ok(n) => println!(rt; "pairs: {n}, the first is edge {}", edges[0]),
-        Err(why) => println!(rt; "pairs: refused: {why}"),
+        Err(why) => println!(rt; "pairs: refused: {}", refusal_number(why)),
     };
 }

@@ -3,18 +3,19 @@
 #![tactic(auto)]
 
 use batch::each_session;
+use listing::refusal_number;
 use rules::graph::{Accepted, Graph, Opened};
 
+fn mixed(sum: u32, words: &[u32]) -> u32 {
+    words.iter().fold(sum, |sum, word| {
+        sum.wrapping_mul(1_000_003).wrapping_add(*word)
+    })
+}
+
+// Table by table: over a chain of the four a checksum took seven times as many instructions.
 fn checksum(graph: &Graph, units: u32) -> u32 {
-    graph
-        .vertices
-        .iter()
-        .chain(&graph.edges)
-        .chain(&graph.weights)
-        .chain(&graph.units)
-        .fold(units, |sum, word| {
-            sum.wrapping_mul(1_000_003).wrapping_add(*word)
-        })
+    let sum = mixed(mixed(units, &graph.vertices), &graph.edges);
+    mixed(mixed(sum, &graph.weights), &graph.units)
 }
 
 fn show(rt: &impl Print, opened: Opened) {
@@ -24,7 +25,7 @@ fn show(rt: &impl Print, opened: Opened) {
             let sum = checksum(&graph, (units % 65_536) as u32);
             println!(rt; "DCT {} {} {} {start} {sum}", graph.nv, graph.ne, graph.nu)
         }
-        Err(why) => println!(rt; "bad {why}"),
+        Err(why) => println!(rt; "bad {}", refusal_number(why)),
     };
 }
 

@@ -1,5 +1,5 @@
 -- A line where there is room, and nothing where there is none.
-use Rattle.std.proofs.Common.{ℕ, ◌-◌, ◌≤◌, ◌<◌, ◌≡◌, List, [], ◌∷◌, ◌++◌, length, refl, sym, ap, ◌∙◌, arith, append_assoc, append-nil}
+use Rattle.std.proofs.Common.{ℕ, ◌+◌, ◌-◌, ◌≤◌, ◌<◌, ◌≡◌, List, [], ◌∷◌, ◌++◌, length, refl, sym, ap, ◌∙◌, arith, append_assoc, append-nil}
 use Rattle.laws.specs.Choice.{pick}
 use Rattle.laws.specs.Placed.{Wrote}
 use Rattle.rules.specs.Listing.{digits, decimal, number, numbers, line, refusal_text}
@@ -15,11 +15,14 @@ module _ (most at left : ℕ) (text x : List ℕ) (behind : left ≡ length x - 
   same_buffer h = sym (in_without_room most at text x (omega arith))
 
   module _ {next : ℕ} {z : List ℕ} (w : Wrote text at x next z) where
-    pub new_end : most ≤ left → 0 < most → next ≡ line_end most at text x
-    new_end h p = w.end ∙ sym (end_with_room most at text x (omega arith))
+    has_room : most ≤ left → at + most ≤ length x
+    has_room h = omega (arith, w.end, w.inside)
 
-    pub new_buffer : most ≤ left → 0 < most → z ≡ line_in most at text x
-    new_buffer h p = w.bytes ∙ sym (in_with_room most at text x (omega arith))
+    pub new_end : most ≤ left → next ≡ line_end most at text x
+    new_end h = w.end ∙ sym (end_with_room most at text x (has_room h))
+
+    pub new_buffer : most ≤ left → z ≡ line_in most at text x
+    new_buffer h = w.bytes ∙ sym (in_with_room most at text x (has_room h))
 
 three_numbers : (a b c : List ℕ) → a ++ (b ++ (c ++ [])) ≡ a ++ b ++ c
 three_numbers a b c = simp (append_assoc, append-nil)

@@ -81,7 +81,7 @@ pub fn bad_line(out: &mut [u8], at: usize, refusal: Refusal) -> usize
     }
     let mut line = Line { out, at };
     line.put_text(b"bad");
-    line.put_number(u32::from(u8::from(refusal)));
+    line.put_number(u32::from(refusal_number(refusal)));
     line.put_byte(b'\n');
     line.at
 }

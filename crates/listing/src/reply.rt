@@ -6,6 +6,7 @@ ghost use Rattle.listing.specs.Pairs.{pairs_text};
 ghost use Rattle.listing.specs.Written.{HasRoom, Puts};
 
 use crate::line::Line;
+use crate::refusal_number;
 use records::Answered;
 use rules::finding::{Carried, Sought, Tally};
 use rules::refusal::Refusal;
@@ -17,7 +18,7 @@ impl Line<'_> {
         ensures { Puts 12 (refusal_text refusal) self.old self.new }
     {
         self.put_byte(b'r');
-        self.put_number(u32::from(u8::from(refusal)));
+        self.put_number(u32::from(refusal_number(refusal)));
     }
 
     // "growth, steps, maximum left"

@@ -1,5 +1,4 @@
--- The raised flags below e: what a walk over the flags has met when it stands at e, and when it has met them all. No loop walks by an index now
--- (specs/Walk.antt has what `numbers` goes by), and these laws stand for what they say of `raised_from`.
+-- The raised flags below e: what a walk over the flags has met when it stands at e, and when it has met them all.
 use Rattle.std.specs.Prelude.{ℕ, zero, suc, ◌+◌, ◌-◌, ◌≤◌, ◌<◌, ◌≡◌, Bool, true, false, not, ◌||◌, List, [], ◌∷◌, ◌++◌, ltb, length, take, get_or}
 use Rattle.std.proofs.Math.Path.{refl}
 use Rattle.std.proofs.Common.{sym, ap, ap₂, ◌∙◌, add-zero, zero-add, add-suc, suc-add, add-one, arith, length-append, take_all, ltb-false, lt-ltb}

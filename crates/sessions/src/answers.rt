@@ -5,7 +5,6 @@ use listing::{answer_line, bad_line, first_line, record_line};
 use records::Answered;
 use rules::graph::{Accepted, Graph};
 use rules::state::{Searched, State};
-use std::fmt::Write;
 use text_out::count;
 
 fn show_answer(out: &mut Output<impl Print>, answered: Answered, state: &State) {
@@ -29,11 +28,12 @@ fn show_pairs(out: &mut Output<impl Print>, state: State) {
     let Ok(n) = comb::list_pairs(state, &mut edges) else {
         return;
     };
-    let _ = out.write_str("p");
+    out.ready();
+    out.byte(b'p');
     for edge in edges.iter().take(n) {
-        let _ = write!(out, " {edge}");
+        out.number(u32::from(*edge));
     }
-    let _ = out.write_str("\n");
+    out.byte(b'\n');
 }
 
 // A record's kind as it stands in the file; `show_records` lets 0 to 3 through.

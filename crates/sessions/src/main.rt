@@ -9,13 +9,13 @@ mod registers;
 use crate::answers::show_session;
 use crate::output::Output;
 use batch::each_session;
-use std::fmt::Write;
 
 fn main(rt: HostRuntime) {
     let mut out = Output::new(&rt);
     each_session(&rt, |number, session| {
         if 0 < number {
-            let _ = out.write_str("=\n");
+            out.ready();
+            out.text(b"=\n");
         }
         show_session(&mut out, session);
     });

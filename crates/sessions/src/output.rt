@@ -1,8 +1,7 @@
 // The output, gathered before it is written.
-ghost use Rattle.std.specs.Prelude.{◌≡◌, ◌≤◌};
+ghost use Rattle.std.specs.Prelude.{◌≡◌, ◌<◌};
 
 use batch::buffer;
-use std::fmt::{Error, Result, Write};
 
 #[derive(Drop)]
 pub(crate) struct Output<'a, P: Print> {
@@ -29,11 +28,11 @@ impl<'a, P: Print> Output<'a, P> {
         self.at = 0;
     }
 
-    // Makes room for the longest line: a pair list of 1,024 edges takes 5,122 bytes.
-    fn ready(&mut self)
-        ensures { self.new.at ≤ 60_000 }
+    // Makes room for the longest line: a pair list of 1,024 edges takes 5,122 bytes. Before a line alone, so that what is written ends with one.
+    pub(crate) fn ready(&mut self)
+        ensures { self.new.at < 60_000 }
     {
-        if 60_000 < self.at {
+        if 60_000 <= self.at {
             self.flush();
         }
     }
@@ -45,15 +44,36 @@ impl<'a, P: Print> Output<'a, P> {
         self.ready();
         self.at = put(&mut self.bytes, self.at);
     }
-}
 
-impl<P: Print> Write for Output<'_, P> {
-    fn write_str(&mut self, text: &str) -> Result {
-        self.ready();
-        let rest = &mut self.bytes[self.at..];
-        let place = rest.get_mut(..text.len()).ok_or(Error)?;
-        place.copy_from_slice(text.as_bytes());
-        self.at += text.len();
-        Ok(())
+    pub(crate) fn byte(&mut self, byte: u8) {
+        if let Some(place) = self.bytes.get_mut(self.at) {
+            *place = byte;
+            self.at += 1;
+        }
+    }
+
+    pub(crate) fn text(&mut self, text: &[u8]) {
+        for byte in text {
+            self.byte(*byte);
+        }
+    }
+
+    // A space and the number. With `write!` a line of registers took four times as many instructions.
+    pub(crate) fn number(&mut self, n: u32) {
+        let mut digits = [b'0'; 10];
+        let mut first = 0;
+        let mut rest = n;
+        for i in (0..10).rev() {
+            digits[i] = b'0' + (rest % 10) as u8;
+            first = i;
+            rest /= 10;
+            if rest == 0 {
+                break;
+            }
+        }
+        self.byte(b' ');
+        if let Some(shown) = digits.get(first..) {
+            self.text(shown);
+        }
     }
 }

@@ -3,37 +3,31 @@ use crate::output::Output;
 use rules::index::NodeIndex;
 use rules::registers::{VertexRegisters, view};
 use rules::state::State;
-use std::fmt::{Display, Formatter, Result, Write};
-
-#[derive(Clone, Copy)]
-struct Shown(NodeIndex);
 
 // A number, `-` for none or `v` for the virtual node.
-impl Display for Shown {
-    fn fmt<W: Write>(&self, f: &mut Formatter<W>) -> Result {
-        match self.0.0 {
-            65_535 => f.write_str("-"),
-            65_534 => f.write_str("v"),
-            n => write!(f, "{n}"),
-        }
+fn show_node(out: &mut Output<impl Print>, node: NodeIndex) {
+    match node.0 {
+        65_535 => out.text(b" -"),
+        65_534 => out.text(b" v"),
+        n => out.number(u32::from(n)),
     }
 }
 
-fn show_vertex(out: &mut Output<impl Print>, v: usize, vertex: VertexRegisters) {
-    let _ = writeln!(
-        out,
-        "v {v} {} {} {} {} {} {}",
-        u32::from(vertex.speed),
-        vertex.grown,
-        u8::from(vertex.is_virtual),
-        u8::from(vertex.is_defect),
-        Shown(vertex.node),
-        Shown(vertex.root)
-    );
+fn show_vertex(out: &mut Output<impl Print>, v: u32, vertex: VertexRegisters) {
+    out.ready();
+    out.byte(b'v');
+    out.number(v);
+    out.number(u32::from(vertex.speed));
+    out.number(vertex.grown);
+    out.number(u32::from(vertex.is_virtual));
+    out.number(u32::from(vertex.is_defect));
+    show_node(out, vertex.node);
+    show_node(out, vertex.root);
+    out.byte(b'\n');
 }
 
 pub(crate) fn show_registers(out: &mut Output<impl Print>, nv: usize, state: &State) {
-    for (v, word) in state.registers.iter().take(nv).enumerate() {
+    for (v, word) in (0..256).zip(state.registers.iter().take(nv)) {
         show_vertex(out, v, view(*word));
     }
 }

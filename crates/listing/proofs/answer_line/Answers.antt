@@ -1,14 +1,14 @@
 -- With room the text and the line's end are written.
-use Rattle.std.proofs.Common.{rules, lit<}
+use Rattle.std.proofs.Common.{rules}
 use Rattle.listing.proofs.Puts.{◌then◌}
 use Rattle.listing.proofs.Whole.{new_end, new_buffer}
 use Rattle.listing.proofs.answer_line.Goals as goal
 
 pub returns-clause-value : goal.returns-clause-value
 returns-clause-value c =
-    new_end _ _ _ _ _ c.saturating_sub-room.ensures (c.put_answer.ensures then c.put_byte.ensures).wrote c.if-room-lt-LONGEST_PAIRS.false (lit< tt)
+    new_end _ _ _ _ _ c.saturating_sub-room.ensures (c.put_answer.ensures then c.put_byte.ensures).wrote c.if-room-lt-LONGEST_PAIRS.false
 
 pub returns-clause-out_after : goal.returns-clause-out_after
 returns-clause-out_after c =
-    let h = new_buffer _ _ _ _ _ c.saturating_sub-room.ensures (c.put_answer.ensures then c.put_byte.ensures).wrote c.if-room-lt-LONGEST_PAIRS.false (lit< tt) in
+    let h = new_buffer _ _ _ _ _ c.saturating_sub-room.ensures (c.put_answer.ensures then c.put_byte.ensures).wrote c.if-room-lt-LONGEST_PAIRS.false in
     search (rules, h)
