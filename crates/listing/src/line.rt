@@ -55,8 +55,7 @@ impl Line<'_> {
     }
 }
 
-// How many digits n has. Told apart by branches: with std's logarithm each number waits for the one before, and a long pair list took half as long
-// again.
+// How many digits n has. Told apart by branches: with std's logarithm each number waits for the one before.
 fn width(n: u32) -> usize
     ensures { result ≡ length (decimal n) }
 {

@@ -1,5 +1,7 @@
 // What a record is answered: a line's text, without its end.
-ghost use Rattle.rules.specs.Listing.{refusal_text, reply_text, tally_text};
+ghost use Rattle.std.specs.Prelude.{length};
+ghost use Rattle.rules.specs.Listing.{numbers, refusal_text, reply_text, tally_text};
+ghost use Rattle.raised.specs.Below.{pair_at};
 ghost use Rattle.rules.specs.Run.{carried, found};
 ghost use Rattle.listing.specs.Answers.{answer_text};
 ghost use Rattle.listing.specs.Pairs.{pairs_text};
@@ -63,15 +65,33 @@ impl Line<'_> {
         }
     }
 
-    // "`p` and edges": the numbers of the stalled ones, which have four digits at most
+    // An edge's number where it is stalled. It has four digits at most.
+    fn put_edge(&mut self, e: u16, stalled: bool)
+        requires { HasRoom (length (numbers (pair_at e stalled))) self.old }
+        ensures { Puts (length (numbers (pair_at e stalled))) (numbers (pair_at e stalled)) self.old self.new }
+    {
+        if stalled {
+            self.put_byte(b' ');
+            self.put_decimal(u32::from(e));
+        }
+    }
+
+    // "`p` and edges": up to the last that is stalled, since behind it no flag is looked at, and most lists are short. No walk over `raised::numbers`:
+    // with it a long list took a third more time.
     fn put_pairs(&mut self, stalled: &[bool; 1024])
         requires { HasRoom 5121 self.old }
         ensures { Puts 5121 (pairs_text stalled.now) self.old self.new }
     {
         self.put_byte(b'p');
-        for e in raised::numbers(stalled) {
-            self.put_byte(b' ');
-            self.put_decimal(u32::from(e));
+        let n = raised::count(stalled);
+        let mut met = 0;
+        for e in 0..1_024u16 {
+            if met == n {
+                break;
+            }
+            let on = stalled[usize::from(e)];
+            self.put_edge(e, on);
+            met += usize::from(on);
         }
     }
 

@@ -58,8 +58,17 @@ impl<'a, P: Print> Output<'a, P> {
         }
     }
 
-    // A space and the number. With `write!` a line of registers took four times as many instructions.
+    // A space and the number: most have one digit. With `write!` a line of registers took four times as many instructions.
     pub(crate) fn number(&mut self, n: u32) {
+        self.byte(b' ');
+        if n < 10 {
+            self.byte(b'0' + n as u8);
+        } else {
+            self.digits(n);
+        }
+    }
+
+    fn digits(&mut self, n: u32) {
         let mut digits = [b'0'; 10];
         let mut first = 0;
         let mut rest = n;
@@ -71,7 +80,6 @@ impl<'a, P: Print> Output<'a, P> {
                 break;
             }
         }
-        self.byte(b' ');
         if let Some(shown) = digits.get(first..) {
             self.text(shown);
         }
