@@ -8,22 +8,19 @@ use raised::count;
 use rules::refusal::Refusal;
 use rules::tables::Stalls;
 
-// "writes edge numbers into a u16 buffer from its start". Up to the last: behind it no flag is looked at, and most lists are short. No walk over
-// `raised::numbers`: with it a full list took twice the time.
+// "writes edge numbers into a u16 buffer from its start". Place by place the next flag that is raised: behind the last none is looked at.
 fn put_pairs(buffer: &mut [u16], stalled: &Stalls, n: usize)
     requires n_value { n ≡ length (Pairs.raised_from 0 stalled.now) }
     requires n_in_bounds { n ≤ length buffer.old }
     ensures { buffer.new ≡ placed 0 (Pairs.raised_from 0 stalled.now) buffer.old }
 {
-    let mut written = 0;
-    for e in 0..1_024 {
-        if written == n {
-            break;
+    let mut e = 0;
+    for written in 0..n {
+        while !stalled[e] {
+            e += 1;
         }
-        if stalled[e] {
-            buffer[written] = e as u16;
-            written += 1;
-        }
+        buffer[written] = e as u16;
+        e += 1;
     }
 }
 

@@ -1,8 +1,9 @@
 -- How many digits a number has, and its digits from the last to the first.
+use Rattle.std.specs.Prelude.{Option, Some, None, IfSome, IfNone, unwrap_or}
 use Rattle.std.proofs.Common.{ℕ, zero, suc, ◌+◌, ◌*◌, ◌-◌, ◌/◌, ◌%◌, ◌^◌, ◌≤◌, ◌<◌, ◌≡◌, List, [], ◌∷◌, ◌++◌, ltb, length, drop, set, refl, sym, ap, ◌∙◌, arith, add-one, ltb-true, ltb-false, length-append, append_assoc, append-nil}
 use Rattle.std.proofs.lemmas.List.{drop-set, drop_all}
 use Rattle.std.proofs.Math.Nat.{pow-succ', one-le-pow}
-use Rattle.laws.specs.Choice.{by_test}
+use Rattle.laws.specs.Choice.{pick, by_test}
 use Rattle.rules.specs.Listing.{digits, decimal}
 
 -- the last k digits of n
@@ -51,13 +52,19 @@ more_than (suc f) (suc k) n h g =
     (λ t. absurd (omega (arith, ltb-true n 10 t, pow-succ' 10 k, one-le-pow k 10 (omega arith))))
     (λ t. rw length-append (let i = more_than f k (n / 10) (omega (arith, pow-succ' 10 f)) (omega (arith, pow-succ' 10 k)) in omega arith))
 
-pub one_wide : (n : ℕ) → n < 10 → 1 ≡ length (decimal n)
-unfolding decimal
-one_wide n h = omega (arith, some_digit 9 n, at_most 10 0 n (omega arith))
+one_digit : 1 ≡ length (decimal 0)
+unfolding decimal digits pick
+one_digit = refl
 
-pub as_wide : (n : ℕ) → n < 2 ^ 32 → (k : ℕ) → 10 ^ k ≤ n → n < 10 * 10 ^ k → k + 1 ≡ length (decimal n)
+as_wide : (n : ℕ) → n < 2 ^ 32 → (k : ℕ) → 10 ^ k ≤ n → n < 10 * 10 ^ k → k + 1 ≡ length (decimal n)
 unfolding decimal
 as_wide n h k least most = omega (arith, more_than 10 k n (omega arith) least, at_most 10 k n (omega (arith, pow-succ' 10 k)))
+
+-- the logarithm rounded down, and one more: 0 has one digit too
+pub width_is : (n : ℕ) → n < 2 ^ 32 → (log : Option ℕ) → IfNone log (n ≡ 0) → IfSome log (λ k. 10 ^ k ≤ n) → IfSome log (λ k. n < 10 * 10 ^ k)
+    → unwrap_or log 0 + 1 ≡ length (decimal n)
+width_is n h None none least most = rw none one_digit
+width_is n h (Some k) none least most = as_wide n h k least most
 
 -- ---- the digits that are left to put, and behind them those that are put
 

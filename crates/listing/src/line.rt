@@ -55,22 +55,11 @@ impl Line<'_> {
     }
 }
 
-// How many digits n has. Told apart by branches: with std's logarithm each number waits for the one before.
+// How many digits n has; 0 has one.
 fn width(n: u32) -> usize
     ensures { result ≡ length (decimal n) }
 {
-    match n {
-        0..=9 => 1,
-        10..=99 => 2,
-        100..=999 => 3,
-        1_000..=9_999 => 4,
-        10_000..=99_999 => 5,
-        100_000..=999_999 => 6,
-        1_000_000..=9_999_999 => 7,
-        10_000_000..=99_999_999 => 8,
-        100_000_000..=999_999_999 => 9,
-        _ => 10,
-    }
+    n.checked_ilog10().unwrap_or(0) as usize + 1
 }
 
 // The digits are put from the last to the first, by index: of what `iter_mut().rev()` writes a proof knows nothing yet.

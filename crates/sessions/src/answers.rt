@@ -1,4 +1,5 @@
 // A session's listing, from the decoder's calls by value: graph and state are handed on as these take them.
+use crate::line::Line;
 use crate::output::Output;
 use crate::registers::show_registers;
 use listing::{answer_line, bad_line, first_line, record_line};
@@ -23,17 +24,22 @@ fn show_search(out: &mut Output<impl Print>, searched: Searched) -> State {
     searched.state
 }
 
+fn put_pairs(bytes: &mut [u8], at: usize, edges: &[u16; 1024], n: usize) -> usize {
+    let mut line = Line { bytes, at };
+    line.byte(b'p');
+    for edge in edges.iter().take(n) {
+        line.number(u32::from(*edge));
+    }
+    line.byte(b'\n');
+    line.at
+}
+
 fn show_pairs(out: &mut Output<impl Print>, state: State) {
     let mut edges = [0u16; 1024];
     let Ok(n) = comb::list_pairs(state, &mut edges) else {
         return;
     };
-    out.ready();
-    out.byte(b'p');
-    for edge in edges.iter().take(n) {
-        out.number(u32::from(*edge));
-    }
-    out.byte(b'\n');
+    out.line(|bytes, at| put_pairs(bytes, at, &edges, n));
 }
 
 // A record's kind as it stands in the file; `show_records` lets 0 to 3 through.

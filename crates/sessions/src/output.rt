@@ -29,7 +29,7 @@ impl<'a, P: Print> Output<'a, P> {
     }
 
     // Makes room for the longest line: a pair list of 1,024 edges takes 5,122 bytes. Before a line alone, so that what is written ends with one.
-    pub(crate) fn ready(&mut self)
+    fn ready(&mut self)
         ensures { self.new.at < 60_000 }
     {
         if 60_000 <= self.at {
@@ -37,51 +37,11 @@ impl<'a, P: Print> Output<'a, P> {
         }
     }
 
-    // One of listing's lines.
+    // `put` writes a line at the position that it is given, and returns where the line ends.
     pub(crate) fn line<F: FnOnce(&mut [u8], usize) -> usize>(&mut self, put: F)
         requires { F.IsAlwaysCallable put }
     {
         self.ready();
         self.at = put(&mut self.bytes, self.at);
-    }
-
-    pub(crate) fn byte(&mut self, byte: u8) {
-        if let Some(place) = self.bytes.get_mut(self.at) {
-            *place = byte;
-            self.at += 1;
-        }
-    }
-
-    pub(crate) fn text(&mut self, text: &[u8]) {
-        for byte in text {
-            self.byte(*byte);
-        }
-    }
-
-    // A space and the number: most have one digit. With `write!` a line of registers took four times as many instructions.
-    pub(crate) fn number(&mut self, n: u32) {
-        self.byte(b' ');
-        if n < 10 {
-            self.byte(b'0' + n as u8);
-        } else {
-            self.digits(n);
-        }
-    }
-
-    fn digits(&mut self, n: u32) {
-        let mut digits = [b'0'; 10];
-        let mut first = 0;
-        let mut rest = n;
-        for i in (0..10).rev() {
-            digits[i] = b'0' + (rest % 10) as u8;
-            first = i;
-            rest /= 10;
-            if rest == 0 {
-                break;
-            }
-        }
-        if let Some(shown) = digits.get(first..) {
-            self.text(shown);
-        }
     }
 }

@@ -1,33 +1,39 @@
 // The registers' lines: `v` index, speed, grown, virtual, defect, node, root.
+ghost use Rattle.std.specs.Prelude.{◌≡◌};
+
+use crate::line::Line;
 use crate::output::Output;
 use rules::index::NodeIndex;
 use rules::registers::{VertexRegisters, view};
 use rules::state::State;
 
 // A number, `-` for none or `v` for the virtual node.
-fn show_node(out: &mut Output<impl Print>, node: NodeIndex) {
+fn put_node(line: &mut Line, node: NodeIndex)
+    ensures { line.new.bytes.ghost_name ≡ line.old.bytes.ghost_name }
+{
     match node.0 {
-        65_535 => out.text(b" -"),
-        65_534 => out.text(b" v"),
-        n => out.number(u32::from(n)),
+        65_535 => line.text(b" -"),
+        65_534 => line.text(b" v"),
+        n => line.number(u32::from(n)),
     }
 }
 
-fn show_vertex(out: &mut Output<impl Print>, v: u32, vertex: VertexRegisters) {
-    out.ready();
-    out.byte(b'v');
-    out.number(v);
-    out.number(u32::from(vertex.speed));
-    out.number(vertex.grown);
-    out.number(u32::from(vertex.is_virtual));
-    out.number(u32::from(vertex.is_defect));
-    show_node(out, vertex.node);
-    show_node(out, vertex.root);
-    out.byte(b'\n');
+fn show_vertex(bytes: &mut [u8], at: usize, v: u32, vertex: VertexRegisters) -> usize {
+    let mut line = Line { bytes, at };
+    line.byte(b'v');
+    line.number(v);
+    line.number(u32::from(vertex.speed));
+    line.number(vertex.grown);
+    line.number(u32::from(vertex.is_virtual));
+    line.number(u32::from(vertex.is_defect));
+    put_node(&mut line, vertex.node);
+    put_node(&mut line, vertex.root);
+    line.byte(b'\n');
+    line.at
 }
 
 pub(crate) fn show_registers(out: &mut Output<impl Print>, nv: usize, state: &State) {
     for (v, word) in (0..256).zip(state.registers.iter().take(nv)) {
-        show_vertex(out, v, view(*word));
+        out.line(|bytes, at| show_vertex(bytes, at, v, view(*word)));
     }
 }
