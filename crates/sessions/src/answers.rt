@@ -24,10 +24,10 @@ fn show_search(out: &mut Output<impl Print>, searched: Searched) -> State {
     searched.state
 }
 
-fn put_pairs(bytes: &mut [u8], at: usize, edges: &[u16; 1024], n: usize) -> usize {
+fn put_pairs(bytes: &mut [u8], at: usize, edges: &[u16]) -> usize {
     let mut line = Line { bytes, at };
     line.byte(b'p');
-    for edge in edges.iter().take(n) {
+    for edge in edges {
         line.number(u32::from(*edge));
     }
     line.byte(b'\n');
@@ -39,7 +39,8 @@ fn show_pairs(out: &mut Output<impl Print>, state: State) {
     let Ok(n) = comb::list_pairs(state, &mut edges) else {
         return;
     };
-    out.line(|bytes, at| put_pairs(bytes, at, &edges, n));
+    let pairs = &edges[..n.min(edges.len())];
+    out.line(|bytes, at| put_pairs(bytes, at, pairs));
 }
 
 // A record's kind as it stands in the file; `show_records` lets 0 to 3 through.

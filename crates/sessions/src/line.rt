@@ -1,5 +1,5 @@
-// A line that is being written: the buffer, and where the next byte goes. What finds no room is left out: `Output::line` makes room for a line. The
-// position is apart from `Output`'s: with that one moved byte by byte, lines of registers took up to 1.7 times the time.
+// A line that is being written: the buffer, and where the next byte goes. What finds no room is left out, where `listing`'s line asks for it:
+// `Output::line` makes room. The position is apart from `Output`'s: with that one moved byte by byte, lines of registers took up to 1.7 times the time.
 ghost use Rattle.std.specs.Prelude.{◌≡◌};
 
 #[derive(Drop)]

@@ -28,7 +28,8 @@ impl<'a, P: Print> Output<'a, P> {
         self.at = 0;
     }
 
-    // Makes room for the longest line: a pair list of 1,024 edges takes at most 5,122 bytes. Before a line alone, so that what is written ends with one.
+    // Makes room for the longest line: a pair list of 1,024 edges takes at most 5,122 bytes. Before a line alone, so that what is written ends with
+    // one.
     fn ready(&mut self)
         ensures { self.new.at < 60_000 }
     {
